@@ -1,0 +1,17 @@
+pub mod Small
+pub mod Bytes
+pub mod StampBytes
+pub mod Header
+pub mod SoundForm
+pub mod Moved
+pub mod Rounds
+pub mod Seam
+pub mod Loop
+pub mod StampsLaw
+pub mod ClockLaw
+pub mod SectionsLaw
+pub mod SectionBytes
+pub mod WholeSections
+pub mod CheckLaw
+pub mod Final
+pub mod ReelLaws

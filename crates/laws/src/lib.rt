@@ -1,0 +1,2 @@
+// The laws of the definitions, each on the contract of a function.
+pub mod theorems;
