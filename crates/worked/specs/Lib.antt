@@ -1,0 +1,3 @@
+pub mod Worked
+pub mod Reels
+pub mod Generated
