@@ -1,0 +1,5 @@
+pub mod Booleans
+pub mod Rows
+pub mod Recalling
+pub mod Assembling
+pub mod Following
