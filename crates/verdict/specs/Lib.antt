@@ -1,0 +1,4 @@
+pub mod Tallies
+pub mod Ledgers
+pub mod Verdicts
+pub mod RoundReels
