@@ -16,11 +16,6 @@ use crate::programme::{programme, PICTURE_PID};
 use std::hint::black_box;
 use std::time::{Duration, Instant};
 
-#[cfg(not(feature = "standin"))]
-extern "C" {
-    fn reel_check(file: *const u8, file_len: usize) -> u64;
-}
-
 /// How long each check is timed at each size, in turns with the others.
 const TURNS: usize = 7;
 const TURN_TIME: Duration = Duration::from_millis(150);
@@ -98,8 +93,7 @@ fn size(draft: &Draft) -> bool {
         let file = draft.file();
         let wrong = &mut wrong;
         move || {
-            // Safety: the pointer comes from a live slice of the length given.
-            let answer = unsafe { reel_check(file.as_ptr(), file.len()) };
+            let answer = crate::exported::check(black_box(&file));
             *wrong += usize::from(black_box(answer) != 0);
         }
     };

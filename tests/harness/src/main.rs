@@ -9,6 +9,7 @@ mod fast;
 mod fastcheck;
 mod generator;
 mod model;
+mod pile;
 mod programme;
 mod shapes;
 mod statements;
@@ -24,6 +25,7 @@ const USAGE: &str = "usage:
   harness sample PATH              writes the sample reel
   harness report PATH              what the own implementation reports of a file
   harness play PATH ROUNDS         its restamped rounds of a file, on standard output
+  harness pile PATH ROUNDS PLAYED  played rounds of a file, checked as a reel of their own
   harness statements [SEED]        small reels with their answers, for the prover to compute";
 
 fn main() -> ExitCode {
@@ -52,6 +54,9 @@ fn main() -> ExitCode {
             }
         }
         Some("statements") => statements::run(number(1, 1)),
+        Some("pile") if arguments.len() == 4 => {
+            pile::run(&arguments[1], number(2, 1) as usize, &arguments[3])
+        }
         Some("play") if arguments.len() == 3 => play(&arguments[1], number(2, 1) as usize),
         Some("report") if arguments.len() == 2 => match std::fs::read(&arguments[1]) {
             Ok(file) => {

@@ -59,7 +59,9 @@ fn statement(draft: &Draft) -> String {
             b.round, b.packet, b.rule
         ),
     };
-    let last = restamp::run(&draft.packets, sheet, 4).pop().expect("a packet");
+    let last = restamp::run(&draft.packets, sheet, 4)
+        .pop()
+        .expect("a packet");
     format!(
         "record\n    {{ entries = ({entries}[])\n    ; rate = {}\n    ; round = {}\n    ; packets = {}\n    ; answer = {answer}\n    ; last = {} }}",
         sheet.rate,
@@ -78,8 +80,13 @@ pub fn run(seed: u64) -> bool {
         if draft.packets.len() > MOST_PACKETS || draft.sheet.entries.len() > 3 {
             continue;
         }
-        let answer = first_breach(&draft.packets, &draft.sheet, 2).map(|b| (b.round as u64, b.rule as u32));
-        let wanted = if answer.is_none() { APPROVED } else { FOR_EACH_ANSWER };
+        let answer =
+            first_breach(&draft.packets, &draft.sheet, 2).map(|b| (b.round as u64, b.rule as u32));
+        let wanted = if answer.is_none() {
+            APPROVED
+        } else {
+            FOR_EACH_ANSWER
+        };
         let count = seen.entry(answer).or_insert(0);
         if *count < wanted {
             *count += 1;
