@@ -12,6 +12,10 @@ fn main() {
     if env::var_os("CARGO_FEATURE_STANDIN").is_none() {
         link("REEL_LIB", "../../target/staticlib/libreport.a");
     }
+    println!("cargo:rerun-if-env-changed=REEL_BENCH_LIB");
+    if env::var_os("CARGO_FEATURE_LEAVES").is_some() {
+        link("REEL_BENCH_LIB", "../../target/staticlib/libbench.a");
+    }
 }
 
 fn link(variable: &str, default: &str) {

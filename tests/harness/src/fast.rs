@@ -327,7 +327,7 @@ fn stamps(payload: &[u8]) -> Option<usize> {
 }
 
 /// Moves a sound packet of a listed PID by one round.
-fn restamp(packet: &mut Packet, kind: u8, tally: u8, ticks: u64) {
+pub fn restamp(packet: &mut Packet, kind: u8, tally: u8, ticks: u64) {
     packet[3] = packet[3] & 0xF0 | (packet[3] + tally) & 15;
     if kind == 1 {
         return;

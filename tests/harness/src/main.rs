@@ -8,6 +8,8 @@ mod exported;
 mod fast;
 mod fastcheck;
 mod generator;
+#[cfg(feature = "leaves")]
+mod leaves;
 mod model;
 mod pile;
 mod programme;
@@ -22,6 +24,7 @@ const USAGE: &str = "usage:
   harness cases                    the worked reels
   harness fastcheck [FILES [SEED]] the check written for speed against the plain one (20000 1)
   harness bench                    times the checks
+  harness leaves                   times form, payload and moving (built with the features standin,leaves)
   harness sample PATH              writes the sample reel
   harness report PATH              what the own implementation reports of a file
   harness play PATH ROUNDS         its restamped rounds of a file, on standard output
@@ -43,6 +46,8 @@ fn main() -> ExitCode {
         Some("cases") => cases::run(),
         Some("fastcheck") => fastcheck::run(number(1, 20_000) as usize, number(2, 1)),
         Some("bench") => bench::run(),
+        #[cfg(feature = "leaves")]
+        Some("leaves") => leaves::run(),
         Some("sample") if arguments.len() == 2 => {
             let draft = programme::programme(programme::SAMPLE_PACKETS);
             match std::fs::write(&arguments[1], draft.file()) {
