@@ -1,3 +1,5 @@
+#![tactic(auto)]
+
 // Leaves, exported for timing beside the same in plain Rust.
 ghost use Rattle.std.specs.Prelude.{◌≡◌, List, Some};
 ghost use Rattle.model.specs.declared.entry.Entry.{Entry};

@@ -1,3 +1,5 @@
+#![tactic(auto)]
+
 // Every worked case and some hundred generated reels, through the library and through an implementation written apart from it.
 mod files;
 mod makes;

@@ -1,3 +1,5 @@
+#![tactic(auto)]
+
 // The reel file: reading it, writing its tail, and making a whole one of packets.
 pub mod contents;
 mod entries;

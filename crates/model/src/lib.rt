@@ -1,3 +1,5 @@
+#![tactic(auto)]
+
 // The words of the subject as plain data: entries, the sheet, rules and refusals. What they mean stands in specs/.
 pub mod entry;
 pub mod refusal;

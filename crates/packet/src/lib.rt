@@ -1,3 +1,5 @@
+#![tactic(auto)]
+
 // What a transport packet says, whether it is sound, and its fields rewritten in place.
 pub mod crc;
 mod field;

@@ -1,3 +1,5 @@
+#![tactic(auto)]
+
 // Reels: stores of packets behind one interface.
 pub mod bytes;
 mod cutting;

@@ -1,3 +1,5 @@
+#![tactic(auto)]
+
 // Makes a reel file of a transport stream: packets come in on standard input, and the file goes out on standard output.
 mod fault;
 

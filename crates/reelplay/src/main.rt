@@ -1,3 +1,5 @@
+#![tactic(auto)]
+
 // Plays a reel file: checks it, and writes its restamped rounds to standard output.
 mod stop;
 

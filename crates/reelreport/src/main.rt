@@ -1,3 +1,5 @@
+#![tactic(auto)]
+
 // Reads a reel file from standard input and prints the report on it.
 use anyhow::anyhow;
 use report::report::reel_report;

@@ -1,3 +1,5 @@
+#![tactic(auto)]
+
 // The report on a reel file, for a host program.
 mod lines;
 pub mod numbers;

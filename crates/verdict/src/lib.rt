@@ -1,3 +1,5 @@
+#![tactic(auto)]
+
 // The verdict on a reel: continuity, tallies, rounds and the check.
 pub mod check;
 pub mod ledger;

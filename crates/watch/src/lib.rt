@@ -1,3 +1,5 @@
+#![tactic(auto)]
+
 // Watches of a run: the trait, two in one, and the three of the house.
 pub mod bank;
 pub mod clock;

@@ -1,3 +1,5 @@
+#![tactic(auto)]
+
 // The definitions, run: worked cases, and small generated reels with the answers of an implementation written apart.
 ghost use Rattle.worked.specs.Generated.{Generated};
 ghost use Rattle.worked.specs.Worked.{Worked};
