@@ -16,6 +16,6 @@ returns t c =
     let w = c.args.width - 1 in
     let v = c.args.value in
     let s : suc w ≡ c.args.width = search rules in
-    ap (λ (x : List ℕ). set x (c.args.at + w) (v % 256)) c.put-number.ensures
+    ap (λ (x : List ℕ). set x (c.args.at + w) (v % 256)) c.put_number.ensures
     ∙ laid_push b (written w (v / 256)) c.args.at (c.args.at + w) (v % 256) (ap (λ n. c.args.at + n) (sym (length_written w (v / 256)))) (search rules)
     ∙ ap (λ n. laid c.args.at (written n v) b) s

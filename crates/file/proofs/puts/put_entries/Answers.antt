@@ -18,7 +18,7 @@ loop-i-preserved c =
     let e = get_or es i no_entry in
     let size : length (take i es) ≡ i = simp length-take (omega arith) in
     let place : 4 * i ≡ 0 + length (entries_bytes (take i es)) = (let s = bytes_length (take i es) in omega arith) in
-    c.put-entry.ensures
+    c.put_entry.ensures
     ∙ ap (λ (x : Bytes). laid (4 * i) (entry_bytes e) x) c.loop-i.invariant
     ∙ laid_laid b (entries_bytes (take i es)) (entry_bytes e) 0 (4 * i) (omega arith) place
     ∙ ap (λ (x : Bytes). laid 0 (entries_bytes (take i es) ++ x) b) (sym (append-nil (entry_bytes e)))

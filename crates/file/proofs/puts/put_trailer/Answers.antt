@@ -15,10 +15,10 @@ returns c =
     let count = written 4 t.count in
     let distance = written 4 t.distance in
     let h : i ≤ length b = omega arith in
-    let one = c.put-number.ensures in
-    let two = c.put-number-2.ensures ∙ ap (λ (x : Bytes). laid (i + 4) round x) one ∙ laid_laid b rate round i (i + 4) h refl in
-    let three = c.put-number-3.ensures ∙ ap (λ (x : Bytes). laid (i + 12) count x) two ∙ laid_laid b (rate ++ round) count i (i + 12) h refl in
-    let four = c.put-number-4.ensures ∙ ap (λ (x : Bytes). laid (i + 16) distance x) three ∙ laid_laid b (rate ++ (round ++ count)) distance i (i + 16) h refl in
-    laid_part c.put-number-4.new.buffer mark c.copy-from-slice.new.self (i + 20) (i + 24 - (i + 20)) c.copy-from-slice.ensures.after (omega arith)
+    let one = c.put_number.ensures in
+    let two = c.put_number-2.ensures ∙ ap (λ (x : Bytes). laid (i + 4) round x) one ∙ laid_laid b rate round i (i + 4) h refl in
+    let three = c.put_number-3.ensures ∙ ap (λ (x : Bytes). laid (i + 12) count x) two ∙ laid_laid b (rate ++ round) count i (i + 12) h refl in
+    let four = c.put_number-4.ensures ∙ ap (λ (x : Bytes). laid (i + 16) distance x) three ∙ laid_laid b (rate ++ (round ++ count)) distance i (i + 16) h refl in
+    laid_part c.put_number-4.new.buffer mark c.copy_from_slice.new.self (i + 20) (i + 24 - (i + 20)) c.copy_from_slice.ensures.after (omega arith)
     ∙ ap (λ (x : Bytes). laid (i + 20) mark x) four
     ∙ laid_laid b (rate ++ (round ++ (count ++ distance))) mark i (i + 20) h refl

@@ -20,12 +20,12 @@ past f t r a e b k h =
     ∙ ap (λ (x : Trailer). counted x.count (sheet_in ((x.distance - 24) / 4) (take (4 * ((x.distance - 24) / 4)) (last x.distance f)) x.rate x.round)) e
     ∙ sym (opened_sheet f a (ap (bad_distance (length f)) (sym d) ∙ b) (ap (λ (x : Trailer). bad_count (length f - x.distance) x.count) (sym e) ∙ k))
 
-pub returns-then-is-bad-distance : goal.returns-then-is-bad-distance
-returns-then-is-bad-distance c =
+pub returns-then-is_bad_distance : goal.returns-then-is_bad_distance
+returns-then-is_bad_distance c =
     let f = c.args.file.now in
     let r = trailer_read f c.in-Some.trailer c.in-Some.ensures.answers in
     record {
-      answers = opened_distance f r.0 (ap (λ (x : Trailer). bad_distance (length f) x.distance) (sym r.1) ∙ sym c.if-is-bad-distance.ensures);
+      answers = opened_distance f r.0 (ap (λ (x : Trailer). bad_distance (length f) x.distance) (sym r.1) ∙ sym c.if-is_bad_distance.ensures);
       again = tt;
     }
 
@@ -35,7 +35,7 @@ returns-in-err-sheet c =
     let r = trailer_read f c.in-Some.trailer c.in-Some.ensures.answers in
     let p = err_from_is_err_and c.from-residual.result c.from-residual.ensures.1 in
     rw (p.1, p.2) (record {
-      answers = past f c.in-Some.trailer _ r.0 r.1 (sym c.if-is-bad-distance.ensures) (sym c.if-is-bad-count.ensures) c.in-err-sheet.ensures.answers;
+      answers = past f c.in-Some.trailer _ r.0 r.1 (sym c.if-is_bad_distance.ensures) (sym c.if-is_bad_count.ensures) c.in-err-sheet.ensures.answers;
       again = tt;
     })
 
@@ -45,11 +45,11 @@ returns c =
     let t = c.in-Some.trailer in
     let s = text_of c.in-ok-sheet.sheet in
     let r = trailer_read f t c.in-Some.ensures.answers in
-    let bad = sym c.if-is-bad-distance.ensures in
+    let bad = sym c.if-is_bad_distance.ensures in
     let g = fitting (length f) t.distance bad in
     let h = unless_ok _ s _ (c.in-ok-sheet.ensures.answers ∙ sheet_slice f t.distance t.rate t.round g) in
     record {
-      answers = past f t (Ok s) r.0 r.1 bad (sym c.if-is-bad-count.ensures) c.in-ok-sheet.ensures.answers;
-      again = tail_again f t s g (sym c.if-is-bad-count.ensures) c.in-Some.ensures.again h
+      answers = past f t (Ok s) r.0 r.1 bad (sym c.if-is_bad_count.ensures) c.in-ok-sheet.ensures.answers;
+      again = tail_again f t s g (sym c.if-is_bad_count.ensures) c.in-Some.ensures.again h
           (c.in-ok-sheet.ensures.again ∙ slice_front f t.distance g);
     }

@@ -8,10 +8,10 @@ pub returns : goal.returns
 returns c =
     let bs = c.args.bytes.now in
     let n = length bs / 4 in
-    let yes : c.read-entries.result ≡ true = search rules in
-    let t : are_entries n bs ≡ true = sym c.read-entries.ensures.answers ∙ yes in
-    let es : take (n - 0) c.read-entries.new.table ≡ entries_in n bs = (let e : n - 0 ≡ n = omega arith in ap (λ k. take k c.read-entries.new.table) e) ∙ c.read-entries.ensures.reads yes in
+    let yes : c.read_entries.result ≡ true = search rules in
+    let t : are_entries n bs ≡ true = sym c.read_entries.ensures.answers ∙ yes in
+    let es : take (n - 0) c.read_entries.new.table ≡ entries_in n bs = (let e : n - 0 ≡ n = omega arith in ap (λ k. take k c.read_entries.new.table) e) ∙ c.read_entries.ensures.reads yes in
     record {
       answers = c.new.ensures ∙ made_in n bs _ c.args.rate c.args.round (omega arith) t es;
-      again = same_entries n bs _ c.args.rate c.args.round c.new.result c.new.ensures (ap entries_bytes es ∙ c.read-entries.ensures.again yes);
+      again = same_entries n bs _ c.args.rate c.args.round c.new.result c.new.ensures (ap entries_bytes es ∙ c.read_entries.ensures.again yes);
     }

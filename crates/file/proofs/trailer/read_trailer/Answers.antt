@@ -14,7 +14,7 @@ pub returns : goal.returns
 returns c =
     let f = c.args.file.now in
     let long : 24 ≤ length f = omega arith in
-    let marked : mark ≡ last 4 f = (slice_eq-Decides Decides-eqb mark (last 4 f) _ c.ends-with.ensures.value).0 (search rules) in
+    let marked : mark ≡ last 4 f = (slice_eq-Decides Decides-eqb mark (last 4 f) _ c.ends_with.ensures.value).0 (search rules) in
     let ends : no_trailer f ≡ false =
     ap (λ b. b || not (bytes_eq mark (last 4 f))) (le-ltb (length f) 24 long) ∙ ap not ((bytes_eq-Decides mark (last 4 f)).1 marked) in
     let e = last_slice f 24 in

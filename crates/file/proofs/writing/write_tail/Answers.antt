@@ -21,21 +21,21 @@ returns c =
     let e : xs ≡ entries_of s = c.entries-entries.ensures in
     let t : FileText = record { sheet = text_of s; count = n } in
     let size = 24 + 4 * length xs in
-    let right : bad_number n ≡ false = sym c.if-is-bad-number.ensures in
+    let right : bad_number n ≡ false = sym c.if-is_bad_number.ensures in
     let within = and_parts (leb 1 n) (leb n 1000000000) (not-false _ right) in
     let place : size - 24 ≡ 0 + length (entries_bytes xs) = (let h = bytes_length xs in omega arith) in
     let whole : length (tail t) ≡ size =
     length-append (entries_bytes (entries_of s)) _ ∙ (let h = bytes_length (entries_of s) in let k = ap (λ (x : List Entry). length x) e in omega arith) in
-    let same : entries_bytes xs ++ trailer_bytes c.rate.result c.round-length.result n size ≡ tail t =
-    ap (λ (x : List Entry). entries_bytes x ++ trailer_bytes c.rate.result c.round-length.result n (24 + 4 * length x)) e
-    ∙ ap (λ r. entries_bytes (entries_of s) ++ trailer_bytes r c.round-length.result n (tail_length (length (entries_of s)))) c.rate.ensures
-    ∙ ap (λ r. entries_bytes (entries_of s) ++ trailer_bytes (rate_of s) r n (tail_length (length (entries_of s)))) c.round-length.ensures in
-    let written : c.put-trailer.new.buffer ≡ laid 0 (tail t) b =
-    c.put-trailer.ensures
-    ∙ ap (λ (x : Bytes). laid (size - 24) (trailer_bytes c.rate.result c.round-length.result n size) x) c.put-entries.ensures
+    let same : entries_bytes xs ++ trailer_bytes c.rate.result c.round_length.result n size ≡ tail t =
+    ap (λ (x : List Entry). entries_bytes x ++ trailer_bytes c.rate.result c.round_length.result n (24 + 4 * length x)) e
+    ∙ ap (λ r. entries_bytes (entries_of s) ++ trailer_bytes r c.round_length.result n (tail_length (length (entries_of s)))) c.rate.ensures
+    ∙ ap (λ r. entries_bytes (entries_of s) ++ trailer_bytes (rate_of s) r n (tail_length (length (entries_of s)))) c.round_length.ensures in
+    let written : c.put_trailer.new.buffer ≡ laid 0 (tail t) b =
+    c.put_trailer.ensures
+    ∙ ap (λ (x : Bytes). laid (size - 24) (trailer_bytes c.rate.result c.round_length.result n size) x) c.put_entries.ensures
     ∙ laid_laid b (entries_bytes xs) _ 0 (size - 24) (omega arith) place
     ∙ ap (λ (x : Bytes). laid 0 x b) same in
-    let front : take size c.put-trailer.new.buffer ≡ tail t = ap (take size) written ∙ ap (λ k. take k (laid 0 (tail t) b)) (sym whole) ∙ laid_take b (tail t) in
+    let front : take size c.put_trailer.new.buffer ≡ tail t = ap (take size) written ∙ ap (λ k. take k (laid 0 (tail t) b)) (sym whole) ∙ laid_take b (tail t) in
     record {
       answers = sym (ap (λ v. unless (first_broken ((3, v) ∷ (7, ltb (length b) (tail_length (length (entries_of s)))) ∷ [])) (tail_length (length (entries_of s)))) right
           ∙ ap (λ (x : List Entry). unless (first_broken ((7, ltb (length b) (tail_length (length x))) ∷ [])) (tail_length (length x))) (sym e)

@@ -7,8 +7,8 @@ use Rattle.packet.proofs.moving.is_stampable.Goals as goal
 pub returns : goal.returns
 returns c =
     let p : Bytes = c.args.packet.now in
-    let o : c.obeys-rule-30.result ≡ stamped (payload p) = c.obeys-rule-30.ensures ∙ ap stamped c.payload-of.ensures in
+    let o : c.obeys_rule_30.result ≡ stamped (payload p) = c.obeys_rule_30.ensures ∙ ap stamped c.payload_of.ensures in
     record {
-      stamps = λ es e. (let s : starts_pes es p ≡ true = sym (c.if-not-starts-pes.ensures es e) in o ∙ (rw s));
+      stamps = λ es e. (let s : starts_pes es p ≡ true = sym (c.if-not-starts_pes.ensures es e) in o ∙ (rw s));
       within = λ h. stamped_within p c.told-packet (sym o ∙ h);
     }

@@ -20,9 +20,9 @@ pub returns-then-length-ge19 : goal.returns-then-length-ge19
 returns-then-length-ge19 c g =
     let u : Bytes = c.args.payload.now in
     let n : ℕ = c.args.by in
-    let m : Bytes = put_mid 9 5 u c.move-stamp.new.field in
-    let e : m ≡ set_stamp 9 ((stamp u 9 + n) % stamps) u = ap (put_mid 9 5 u) c.move-stamp.ensures ∙ pts_part u (view_fourteen u (omega arith)) n in
-    ap (put_mid 14 5 m) c.move-stamp-then-length-ge19.ensures
+    let m : Bytes = put_mid 9 5 u c.move_stamp.new.field in
+    let e : m ≡ set_stamp 9 ((stamp u 9 + n) % stamps) u = ap (put_mid 9 5 u) c.move_stamp.ensures ∙ pts_part u (view_fourteen u (omega arith)) n in
+    ap (put_mid 14 5 m) c.move_stamp-then-length-ge19.ensures
     ∙ ap (λ (z : Bytes). put_mid 14 5 z (onward n (mid_of 14 5 z))) e
     ∙ dts_part u (view_nineteen u (omega arith)) n ((stamp u 9 + n) % stamps)
     ∙ sym (moves_both u n (le-leb 2 (pts_dts_flags u) (omega arith)) (eq-eqb (pts_dts_flags u) 3 (omega arith)))
@@ -31,7 +31,7 @@ pub returns-then-flags-eq2 : goal.returns-then-flags-eq2
 returns-then-flags-eq2 c g =
     let u : Bytes = c.args.payload.now in
     let n : ℕ = c.args.by in
-    ap (put_mid 9 5 u) c.move-stamp-then-flags-eq2.ensures
+    ap (put_mid 9 5 u) c.move_stamp-then-flags-eq2.ensures
     ∙ pts_part u (view_fourteen u (omega arith)) n
     ∙ sym (moves_pts u n (le-leb 2 (pts_dts_flags u) (omega arith)) (ne_eqb (pts_dts_flags u) 3 (λ e. omega arith)))
 

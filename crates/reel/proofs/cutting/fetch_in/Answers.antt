@@ -26,8 +26,8 @@ returns c =
     let w : 188 * i + 188 - 188 * i ≡ 188 = omega arith in
     record {
       answers = sym (answers_ok (cut (low bs)) i _ l h);
-      writes = c.copy-from-slice.ensures.after
-          ∙ sym c.note-bytes.ensures
+      writes = c.copy_from_slice.ensures.after
+          ∙ sym c.note_bytes.ensures
           ∙ ap (λ m. low (take m (drop (188 * i) bs))) w
           ∙ sym (low_take 188 (drop (188 * i) bs))
           ∙ ap (take 188) (sym (low_drop (188 * i) bs))

@@ -20,4 +20,4 @@ returns c =
     let l : length c.args.buffer.now ≡ 188 = omega arith in
     let h : i < length (fillers n) = omega arith in
     let k : i < n = omega arith in
-    record { answers = sym (answers_ok (fillers n) i _ l h); writes = c.write-filler.ensures ∙ sym (fillers_at n i k) ∙ sym (writes_ok (fillers n) i c.args.buffer.now l h) }
+    record { answers = sym (answers_ok (fillers n) i _ l h); writes = c.write_filler.ensures ∙ sym (fillers_at n i k) ∙ sym (writes_ok (fillers n) i c.args.buffer.now l h) }

@@ -20,10 +20,10 @@ returns-in-Ok c =
     let first = reel_line n (length c.entries.result.now) in
     let wide : ltb (length b) 64 ≡ false = le-ltb (length b) 64 (omega arith) in
     let short : ltb 65536 (length f) ≡ false = le-ltb 65536 (length f) (omega arith) in
-    let one = begun b 0 first c.put-reel-end.new.out c.put-reel-end.result c.put-reel-end.ensures.writes (let e = c.put-reel-end.ensures.ends in omega arith) in
-    let two = carried b 0 first _ _ c.put-verdict.new.out _ c.put-verdict.result (omega arith) one c.put-verdict.ensures.writes c.put-verdict.ensures.ends in
+    let one = begun b 0 first c.put_reel-end.new.out c.put_reel-end.result c.put_reel-end.ensures.writes (let e = c.put_reel-end.ensures.ends in omega arith) in
+    let two = carried b 0 first _ _ c.put_verdict.new.out _ c.put_verdict.result (omega arith) one c.put_verdict.ensures.writes c.put_verdict.ensures.ends in
     let text : first ++ verdict_line _ ≡ report_of f =
-    ap (λ v. first ++ verdict_line v) c.check-file.ensures
+    ap (λ v. first ++ verdict_line v) c.check_file.ensures
     ∙ ap (λ (x : List Entry). reel_line n (length x) ++ verdict_line (checked_file f t)) c.entries.ensures
     ∙ ap (described f) c.in-Ok.ensures.answers
     ∙ sym (ap (λ v. cond v (refused_line 9) (described f (opened f))) short) in

@@ -18,8 +18,8 @@ returns-then-n-lt10 t c =
       ends = omega arith;
     }
 
-pub put-decimal-end-requires : goal.put-decimal-end-requires
-put-decimal-end-requires t c = let h = more_digits c.args.n (search rules) (search rules) in omega arith
+pub put_decimal-end-requires : goal.put_decimal-end-requires
+put_decimal-end-requires t c = let h = more_digits c.args.n (search rules) (search rules) in omega arith
 
 pub bounds-out-end : goal.bounds-out-end
 bounds-out-end t c = let h = more_digits c.args.n (search rules) (search rules) in omega arith
@@ -35,11 +35,11 @@ returns t c =
     let large : 10 ≤ n = search rules in
     let fits : n < 2 ^ 64 = search rules in
     let h = more_digits n large fits in
-    let e = c.put-decimal-end.result in
-    let ends = c.put-decimal-end.ensures.ends in
+    let e = c.put_decimal-end.result in
+    let ends = c.put_decimal-end.ensures.ends in
     let l : e < length b = omega arith in
     record {
-      writes = ap (λ (x : List ℕ). set x e (48 + n % 10)) c.put-decimal-end.ensures.writes
+      writes = ap (λ (x : List ℕ). set x e (48 + n % 10)) c.put_decimal-end.ensures.writes
           ∙ laid_push b (decimal (n / 10)) i e (48 + n % 10) ends l
           ∙ ap (λ (x : List ℕ). laid i x b) (sym (decimal_step n large fits));
       ends = omega arith;

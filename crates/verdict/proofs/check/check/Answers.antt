@@ -17,9 +17,9 @@ returns g c =
     let ps : Packets = g.R.Reel.packets c.args.reel.now in
     let f : Finding = g.W.Watch.fresh c.args.sheet.now in
     let e : g.W.Watch.finding c.make-watch.result ≡ f = fun_ext (λ xs. fun_ext (λ x. c.make-watch.ensures xs x)) in
-    let a : breach_of c.check-with.result.verdict ≡ verdict es T f ps = c.check-with.ensures.answers ∙ ap (λ x. verdict es T x ps) e in
+    let a : breach_of c.check_with.result.verdict ≡ verdict es T f ps = c.check_with.ensures.answers ∙ ap (λ x. verdict es T x ps) e in
     record {
-      keeps = c.check-with.ensures.keeps;
+      keeps = c.check_with.ensures.keeps;
       answers = a;
       decides = subst (Decides es T f ps) (sym a) (decided es T (whole_round c.args.sheet.now) f (g.met.W.Watch.rounds c.args.sheet.now) ps (g.met.R.Reel.whole c.args.reel.now));
     }

@@ -37,7 +37,7 @@ returns-in-Some g c =
         let v = c.loop-i.invariant.2 f t (subst (λ x. State es T f ps (j * x) c.args.rows.now (g.W.Watch.finding c.args.watch.now)) (sym e) s) in
             let q : run es T ps (j * n + i) ≡ c.restamp.new.packet =
             run_at es T ps c.args.tallies.now j n e t i c.loop-i-test.true c.restamp.new.packet
-            (stamped_there es T (g.R.Reel.packets c.loop-i.reel) ps c.args.tallies.now j i (j * c.round-length.result) (replicate 188 0) c.fetch.new.buffer c.restamp.new.packet c.loop-i.invariant.1 refl l c.fetch.ensures.writes (ap (λ x. j * x) c.round-length.ensures) c.restamp.ensures) in
+            (stamped_there es T (g.R.Reel.packets c.loop-i.reel) ps c.args.tallies.now j i (j * c.round_length.result) (replicate 188 0) c.fetch.new.buffer c.restamp.new.packet c.loop-i.invariant.1 refl l c.fetch.ensures.writes (ap (λ x. j * x) c.round_length.ensures) c.restamp.ensures) in
             let b : Some (rule_number c.in-Some.rule) ≡ breach es T f ps (j * n + i) = (c.in-Some.ensures f T ps q v.0).0 in
             round_some es T f ps n e j i c.loop-i-test.true (rule_number c.in-Some.rule) v.1 b,
         λ z. absurd (never z),
@@ -60,8 +60,8 @@ loop-i-preserved g c =
           let v = c.loop-i.invariant.2 f t s in
           let q : run es T ps (j * n + i) ≡ c.restamp.new.packet =
           run_at es T ps c.args.tallies.now j n e t i c.loop-i-test.true c.restamp.new.packet
-          (stamped_there es T (g.R.Reel.packets c.loop-i.reel) ps c.args.tallies.now j i (j * c.round-length.result) (replicate 188 0) c.fetch.new.buffer c.restamp.new.packet c.loop-i.invariant.1 refl l c.fetch.ensures.writes (ap (λ x. j * x) c.round-length.ensures) c.restamp.ensures) in
-          let b = c.in-default.ensures f T ps q v.0 in (
+          (stamped_there es T (g.R.Reel.packets c.loop-i.reel) ps c.args.tallies.now j i (j * c.round_length.result) (replicate 188 0) c.fetch.new.buffer c.restamp.new.packet c.loop-i.invariant.1 refl l c.fetch.ensures.writes (ap (λ x. j * x) c.round_length.ensures) c.restamp.ensures) in
+          let b = c.in_default.ensures f T ps q v.0 in (
             subst (λ x. State es T f ps x c.look.new.rows (g.W.Watch.finding c.look.new.watch)) (add_assoc (j * n) i 1) (b.1 refl),
             below_more (λ k. breach es T f ps (j * n + k) ≡ None) i v.1 (sym b.0),
           ),

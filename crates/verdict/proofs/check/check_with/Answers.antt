@@ -29,13 +29,13 @@ returns-in-Some g c =
     let few : length es ≤ 16 = few_entries c.args.sheet.now in
     let s0 : State es T f ps (0 * length ps) c.blank-rows.result f = state_zero es T f ps c.blank-rows.result (c.blank-rows.ensures es few) in
     record {
-      keeps = c.check-round.ensures.keeps;
+      keeps = c.check_round.ensures.keeps;
       answers = verdict_zero es T f ps c.in-Some.fault (c.in-Some.ensures.finds f (λ h. absurd (no_one h)) s0).0;
       counts = λ h. absurd (not_approved _ _ _ h);
     }
 
-pub returns-then-not-all-clocked : goal.returns-then-not-all-clocked
-returns-then-not-all-clocked g c =
+pub returns-then-not-all_clocked : goal.returns-then-not-all_clocked
+returns-then-not-all_clocked g c =
     let es : List Entry = entries_of c.args.sheet.now in
     let T : ℕ = round_of c.args.sheet.now in
     let ps : Packets = g.R.Reel.packets c.args.reel.now in
@@ -44,18 +44,18 @@ returns-then-not-all-clocked g c =
     let s0 : State es T f ps (0 * length ps) c.blank-rows.result f = state_zero es T f ps c.blank-rows.result (c.blank-rows.ensures es few) in
     let w : Whole ps = g.met.R.Reel.whole c.args.reel.now in
     let z : T % 300 ≡ 0 = whole_round c.args.sheet.now in
-    let a0 = c.in-default.ensures.finds f (λ h. absurd (no_one h)) s0 in
-    let g1 : Finding = g.W.Watch.finding c.check-round.new.watch in
-    let k1 : Knows es (past es T ps (length ps)) c.check-round.new.rows = knows_all es T f ps c.check-round.new.rows g1 (a0.1 refl) in
-    let cl : false ≡ all_clocked es es ps = c.if-not-all-clocked.ensures (past es T ps (length ps)) k1 ∙ clocks_known es T ps w z in
+    let a0 = c.in_default.ensures.finds f (λ h. absurd (no_one h)) s0 in
+    let g1 : Finding = g.W.Watch.finding c.check_round.new.watch in
+    let k1 : Knows es (past es T ps (length ps)) c.check_round.new.rows = knows_all es T f ps c.check_round.new.rows g1 (a0.1 refl) in
+    let cl : false ≡ all_clocked es es ps = c.if-not-all_clocked.ensures (past es T ps (length ps)) k1 ∙ clocks_known es T ps w z in
     record {
-      keeps = c.check-round.ensures.keeps;
-      answers = ap (λ x. Some (mk 0 x 31)) (c.count.ensures ∙ ap length c.check-round.ensures.keeps) ∙ verdict_unclocked es T f ps a0.0 cl;
+      keeps = c.check_round.ensures.keeps;
+      answers = ap (λ x. Some (mk 0 x 31)) (c.count.ensures ∙ ap length c.check_round.ensures.keeps) ∙ verdict_unclocked es T f ps a0.0 cl;
       counts = λ h. absurd (not_approved _ _ _ h);
     }
 
-pub returns-in-Some-check-round : goal.returns-in-Some-check-round
-returns-in-Some-check-round g c =
+pub returns-in-Some-check_round : goal.returns-in-Some-check_round
+returns-in-Some-check_round g c =
     let es : List Entry = entries_of c.args.sheet.now in
     let T : ℕ = round_of c.args.sheet.now in
     let ps : Packets = g.R.Reel.packets c.args.reel.now in
@@ -64,17 +64,17 @@ returns-in-Some-check-round g c =
     let s0 : State es T f ps (0 * length ps) c.blank-rows.result f = state_zero es T f ps c.blank-rows.result (c.blank-rows.ensures es few) in
     let w : Whole ps = g.met.R.Reel.whole c.args.reel.now in
     let z : T % 300 ≡ 0 = whole_round c.args.sheet.now in
-    let a0 = c.in-default.ensures.finds f (λ h. absurd (no_one h)) s0 in
-    let g1 : Finding = g.W.Watch.finding c.check-round.new.watch in
-    let k1 : Knows es (past es T ps (length ps)) c.check-round.new.rows = knows_all es T f ps c.check-round.new.rows g1 (a0.1 refl) in
-    let ts : Tallied es ps c.tallies-of-tallies.result = tallied es T ps w z c.check-round.new.rows c.tallies-of-tallies.result few k1 c.tallies-of-tallies.ensures in
-    let cl : true ≡ all_clocked es es ps = c.if-not-all-clocked.ensures (past es T ps (length ps)) k1 ∙ clocks_known es T ps w z in
-    let s1 = state_one es T f ps c.check-round.new.rows g1 (a0.1 refl) in
-    let g2 : Finding = g.W.Watch.finding c.check-round-2.new.watch in
-    let r2 = subst (λ x. Rounds es T f x 1 c.tallies-of-tallies.result c.check-round.new.rows g1 (Some c.in-Some-check-round.fault) c.check-round-2.new.rows g2) c.check-round.ensures.keeps (c.in-Some-check-round.ensures.finds f) in
+    let a0 = c.in_default.ensures.finds f (λ h. absurd (no_one h)) s0 in
+    let g1 : Finding = g.W.Watch.finding c.check_round.new.watch in
+    let k1 : Knows es (past es T ps (length ps)) c.check_round.new.rows = knows_all es T f ps c.check_round.new.rows g1 (a0.1 refl) in
+    let ts : Tallied es ps c.tallies_of-tallies.result = tallied es T ps w z c.check_round.new.rows c.tallies_of-tallies.result few k1 c.tallies_of-tallies.ensures in
+    let cl : true ≡ all_clocked es es ps = c.if-not-all_clocked.ensures (past es T ps (length ps)) k1 ∙ clocks_known es T ps w z in
+    let s1 = state_one es T f ps c.check_round.new.rows g1 (a0.1 refl) in
+    let g2 : Finding = g.W.Watch.finding c.check_round-2.new.watch in
+    let r2 = subst (λ x. Rounds es T f x 1 c.tallies_of-tallies.result c.check_round.new.rows g1 (Some c.in-Some-check_round.fault) c.check_round-2.new.rows g2) c.check_round.ensures.keeps (c.in-Some-check_round.ensures.finds f) in
     record {
-      keeps = c.check-round-2.ensures.keeps ∙ c.check-round.ensures.keeps;
-      answers = verdict_one es T f ps a0.0 cl c.in-Some-check-round.fault (r2 (λ _. ts) s1).0;
+      keeps = c.check_round-2.ensures.keeps ∙ c.check_round.ensures.keeps;
+      answers = verdict_one es T f ps a0.0 cl c.in-Some-check_round.fault (r2 (λ _. ts) s1).0;
       counts = λ h. absurd (not_approved _ _ _ h);
     }
 
@@ -88,16 +88,16 @@ returns g c =
     let s0 : State es T f ps (0 * length ps) c.blank-rows.result f = state_zero es T f ps c.blank-rows.result (c.blank-rows.ensures es few) in
     let w : Whole ps = g.met.R.Reel.whole c.args.reel.now in
     let z : T % 300 ≡ 0 = whole_round c.args.sheet.now in
-    let a0 = c.in-default.ensures.finds f (λ h. absurd (no_one h)) s0 in
-    let g1 : Finding = g.W.Watch.finding c.check-round.new.watch in
-    let k1 : Knows es (past es T ps (length ps)) c.check-round.new.rows = knows_all es T f ps c.check-round.new.rows g1 (a0.1 refl) in
-    let ts : Tallied es ps c.tallies-of-tallies.result = tallied es T ps w z c.check-round.new.rows c.tallies-of-tallies.result few k1 c.tallies-of-tallies.ensures in
-    let cl : true ≡ all_clocked es es ps = c.if-not-all-clocked.ensures (past es T ps (length ps)) k1 ∙ clocks_known es T ps w z in
-    let s1 = state_one es T f ps c.check-round.new.rows g1 (a0.1 refl) in
-    let g2 : Finding = g.W.Watch.finding c.check-round-2.new.watch in
-    let r2 = subst (λ x. Rounds es T f x 1 c.tallies-of-tallies.result c.check-round.new.rows g1 None c.check-round-2.new.rows g2) c.check-round.ensures.keeps (c.in-default-check-round.ensures.finds f) in
+    let a0 = c.in_default.ensures.finds f (λ h. absurd (no_one h)) s0 in
+    let g1 : Finding = g.W.Watch.finding c.check_round.new.watch in
+    let k1 : Knows es (past es T ps (length ps)) c.check_round.new.rows = knows_all es T f ps c.check_round.new.rows g1 (a0.1 refl) in
+    let ts : Tallied es ps c.tallies_of-tallies.result = tallied es T ps w z c.check_round.new.rows c.tallies_of-tallies.result few k1 c.tallies_of-tallies.ensures in
+    let cl : true ≡ all_clocked es es ps = c.if-not-all_clocked.ensures (past es T ps (length ps)) k1 ∙ clocks_known es T ps w z in
+    let s1 = state_one es T f ps c.check_round.new.rows g1 (a0.1 refl) in
+    let g2 : Finding = g.W.Watch.finding c.check_round-2.new.watch in
+    let r2 = subst (λ x. Rounds es T f x 1 c.tallies_of-tallies.result c.check_round.new.rows g1 None c.check_round-2.new.rows g2) c.check_round.ensures.keeps (c.in_default-check_round.ensures.finds f) in
     record {
-      keeps = c.check-round-2.ensures.keeps ∙ c.check-round.ensures.keeps;
+      keeps = c.check_round-2.ensures.keeps ∙ c.check_round.ensures.keeps;
       answers = verdict_none es T f ps a0.0 cl (r2 (λ _. ts) s1).0;
       counts = λ _. ts;
     }

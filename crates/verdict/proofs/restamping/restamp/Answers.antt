@@ -12,6 +12,6 @@ returns c =
     let es : List Entry = entries_of c.args.sheet.now in
     let p : Bytes = c.args.packet.now in
     let ts : List ℕ = c.args.tallies.now in
-    let e = c.tally-of.ensures ∙ ap (at_row ts) (c.find-found.ensures.place ∙ ap (row_of es) c.pid.ensures) in
-    c.move-on-as.ensures es (sym (c.kind-of.ensures ∙ c.find-found.ensures.kind ∙ ap (kind_of es) c.pid.ensures))
+    let e = c.tally_of.ensures ∙ ap (at_row ts) (c.find-found.ensures.place ∙ ap (row_of es) c.pid.ensures) in
+    c.move_on_as.ensures es (sym (c.kind_of.ensures ∙ c.find-found.ensures.kind ∙ ap (kind_of es) c.pid.ensures))
     ∙ ap (λ x. moved es (c.args.round * x) c.args.ticks p) e

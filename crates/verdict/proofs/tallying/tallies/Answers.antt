@@ -37,5 +37,5 @@ returns g c =
       keeps = c.loop-i.invariant.0;
       counts = λ i d l.
           (let s : i < 16 = (let f = few_entries c.args.sheet.now in omega arith) in
-          c.tallies-of.ensures i blank s ∙ (c.loop-i.invariant.1 i d blank l).tallied ∙ ap (λ n. counted es (get_or es i d).pid (before (λ k. get_or ps k []) n) % 16) e);
+          c.tallies_of.ensures i blank s ∙ (c.loop-i.invariant.1 i d blank l).tallied ∙ ap (λ n. counted es (get_or es i d).pid (before (λ k. get_or ps k []) n) % 16) e);
     }

@@ -11,11 +11,11 @@ use Rattle.watch.proofs.Rows.{row_fits}
 use Rattle.watch.proofs.Recalling.{carries_from, not_clock}
 use Rattle.watch.proofs.clock.clock_row.Goals as goal
 
-pub returns-then-not-has-pcr : goal.returns-then-not-has-pcr
-returns-then-not-has-pcr c =
+pub returns-then-not-has_pcr : goal.returns-then-not-has_pcr
+returns-then-not-has_pcr c =
     let p = c.args.packet.now in
     let es = entries_of c.args.sheet.now in
-    record { row = λ place. fourth_none (row_of es (pid p)) None (sound es p) (is_clock (kind_of es (pid p))) (eqb (pid p) (pid p)) (has_pcr p) (sym c.if-not-has-pcr.ensures); fits = tt }
+    record { row = λ place. fourth_none (row_of es (pid p)) None (sound es p) (is_clock (kind_of es (pid p))) (eqb (pid p) (pid p)) (has_pcr p) (sym c.if-not-has_pcr.ensures); fits = tt }
 
 pub returns-then-ne : goal.returns-then-ne
 returns-then-ne c =
@@ -37,8 +37,8 @@ returns c =
     let e : listed.kind ≡ Clock = search rules in
     let k : kind_of es (pid p) ≡ Some Clock = ap (kind_of es) (sym c.pid.ensures) ∙ sym c.in-ok-listed.ensures.kind ∙ ap Some e in
     let r : row_of es (pid p) ≡ Some listed.place = ap (row_of es) (sym c.pid.ensures) ∙ sym c.in-ok-listed.ensures.place in
-    let s : sound es p ≡ true = sym (c.is-sound.ensures es k) ∙ c.if-not-is-sound.false in
+    let s : sound es p ≡ true = sym (c.is_sound.ensures es k) ∙ c.if-not-is_sound.false in
     record {
-      row = λ place. sym (cond-true (carries_pcr es (pid p) (record { place = place; bytes = p })) (row_of es (pid p)) None (carries_from es place p s k (sym c.if-not-has-pcr.ensures)) ∙ r);
+      row = λ place. sym (cond-true (carries_pcr es (pid p) (record { place = place; bytes = p })) (row_of es (pid p)) None (carries_from es place p s k (sym c.if-not-has_pcr.ensures)) ∙ r);
       fits = row_fits c.args.sheet.now (pid p) listed.place r;
     }

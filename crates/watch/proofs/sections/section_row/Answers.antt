@@ -11,11 +11,11 @@ use Rattle.watch.proofs.Rows.{row_fits}
 use Rattle.watch.proofs.Following.{carries_from, not_sections}
 use Rattle.watch.proofs.sections.section_row.Goals as goal
 
-pub returns-then-not-has-payload : goal.returns-then-not-has-payload
-returns-then-not-has-payload c =
+pub returns-then-not-has_payload : goal.returns-then-not-has_payload
+returns-then-not-has_payload c =
     let p = c.args.packet.now in
     let es = entries_of c.args.sheet.now in
-    record { row = λ place. fourth_none (row_of es (pid p)) None (sound es p) (is_sections (kind_of es (pid p))) (eqb (pid p) (pid p)) (has_payload p) (sym c.if-not-has-payload.ensures); fits = tt }
+    record { row = λ place. fourth_none (row_of es (pid p)) None (sound es p) (is_sections (kind_of es (pid p))) (eqb (pid p) (pid p)) (has_payload p) (sym c.if-not-has_payload.ensures); fits = tt }
 
 pub returns-then-ne : goal.returns-then-ne
 returns-then-ne c =
@@ -37,8 +37,8 @@ returns c =
     let e : listed.kind ≡ Sections = search rules in
     let k : kind_of es (pid p) ≡ Some Sections = ap (kind_of es) (sym c.pid.ensures) ∙ sym c.in-ok-listed.ensures.kind ∙ ap Some e in
     let r : row_of es (pid p) ≡ Some listed.place = ap (row_of es) (sym c.pid.ensures) ∙ sym c.in-ok-listed.ensures.place in
-    let s : sound es p ≡ true = sym (c.is-sound.ensures es k) ∙ c.if-not-is-sound.false in
+    let s : sound es p ≡ true = sym (c.is_sound.ensures es k) ∙ c.if-not-is_sound.false in
     record {
-      row = λ place. sym (cond-true (carries es (pid p) (record { place = place; bytes = p })) (row_of es (pid p)) None (carries_from es place p s k (sym c.if-not-has-payload.ensures)) ∙ r);
+      row = λ place. sym (cond-true (carries es (pid p) (record { place = place; bytes = p })) (row_of es (pid p)) None (carries_from es place p s k (sym c.if-not-has_payload.ensures)) ∙ r);
       fits = row_fits c.args.sheet.now (pid p) listed.place r;
     }

@@ -6,14 +6,14 @@ use Rattle.model.specs.Sheets.{entries_of}
 use Rattle.watch.proofs.Booleans.{third_false, fourth_false}
 use Rattle.watch.proofs.stamps.starts_pes.Goals as goal
 
-pub returns-then-not-payload-unit-start : goal.returns-then-not-payload-unit-start
-returns-then-not-payload-unit-start c =
+pub returns-then-not-payload_unit_start : goal.returns-then-not-payload_unit_start
+returns-then-not-payload_unit_start c =
     let p = c.args.packet.now in
     let es = entries_of c.args.sheet.now in
-    third_false (sound es p) (is_pes (kind_of es (pid p))) (payload_unit_start p) (has_payload p) (sym c.if-not-payload-unit-start.ensures)
+    third_false (sound es p) (is_pes (kind_of es (pid p))) (payload_unit_start p) (has_payload p) (sym c.if-not-payload_unit_start.ensures)
 
-pub returns-then-not-has-payload : goal.returns-then-not-has-payload
-returns-then-not-has-payload c =
+pub returns-then-not-has_payload : goal.returns-then-not-has_payload
+returns-then-not-has_payload c =
     let p = c.args.packet.now in
     let es = entries_of c.args.sheet.now in
-    fourth_false (sound es p) (is_pes (kind_of es (pid p))) (payload_unit_start p) (has_payload p) (sym c.if-not-has-payload.ensures)
+    fourth_false (sound es p) (is_pes (kind_of es (pid p))) (payload_unit_start p) (has_payload p) (sym c.if-not-has_payload.ensures)

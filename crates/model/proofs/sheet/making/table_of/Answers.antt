@@ -7,6 +7,6 @@ pub returns : goal.returns
 returns c =
     let h : length c.args.entries.now ≤ 16 = c.requires in
     record {
-      long = front_length c.args.entries.now c.copy-from-slice.new.self (replicate 16 no_entry) (length c.args.entries.now - 0) h c.copy-from-slice.ensures.after (omega arith);
-      front = front_take c.args.entries.now c.copy-from-slice.new.self (replicate 16 no_entry) (length c.args.entries.now - 0) h c.copy-from-slice.ensures.after (omega arith);
+      long = front_length c.args.entries.now c.copy_from_slice.new.self (replicate 16 no_entry) (length c.args.entries.now - 0) h c.copy_from_slice.ensures.after (omega arith);
+      front = front_take c.args.entries.now c.copy_from_slice.new.self (replicate 16 no_entry) (length c.args.entries.now - 0) h c.copy_from_slice.ensures.after (omega arith);
     }

@@ -15,20 +15,20 @@ pub returns-in-Some-find : goal.returns-in-Some-find
 returns-in-Some-find c = λ before k.
     let es : List Entry = entries_of c.args.sheet.now in
     let d : Row = record { last = None; copied = false; tally = 0; clocked = false } in
-    judges_row es c.args.sheet.now.entries c.args.packet.now before c.args.rows.now k c.in-default.ensures c.in-Some-find.listed.place (c.in-Some-find.ensures.place ∙ ap (row_of es) c.pid.ensures)
+    judges_row es c.args.sheet.now.entries c.args.packet.now before c.args.rows.now k c.in_default.ensures c.in-Some-find.listed.place (c.in-Some-find.ensures.place ∙ ap (row_of es) c.pid.ensures)
     (let z = c.told-rows in omega arith) d c.note.result _ c.note.ensures.judged c.note.ensures.noted
 
-pub returns-in-default-find : goal.returns-in-default-find
-returns-in-default-find c = λ before k.
+pub returns-in_default-find : goal.returns-in_default-find
+returns-in_default-find c = λ before k.
     let es : List Entry = entries_of c.args.sheet.now in
-    absurd (no (row_place es c.args.sheet.now.entries c.args.packet.now before c.args.rows.now k c.in-default.ensures c.in-Some-find.listed.place (c.in-Some-find.ensures.place ∙ ap (row_of es) c.pid.ensures)).0 c.if-listed-lt16.false (few_entries c.args.sheet.now))
+    absurd (no (row_place es c.args.sheet.now.entries c.args.packet.now before c.args.rows.now k c.in_default.ensures c.in-Some-find.listed.place (c.in-Some-find.ensures.place ∙ ap (row_of es) c.pid.ensures)).0 c.if-listed-lt16.false (few_entries c.args.sheet.now))
   where
     no : {i n : ℕ} → i < n → 16 ≤ i → n ≤ 16 → ⊥
     no {i} {n} a b d = omega arith
 
-pub returns-in-default-find·2 : goal.returns-in-default-find·2
-returns-in-default-find·2 c = λ before k.
+pub returns-in_default-find·2 : goal.returns-in_default-find·2
+returns-in_default-find·2 c = λ before k.
     let es : List Entry = entries_of c.args.sheet.now in
-    let f = c.in-default.ensures in
+    let f = c.in_default.ensures in
     judges_null es c.args.sheet.now.entries c.args.packet.now before c.args.rows.now k f
-    (no_row_null es c.args.sheet.now.entries c.args.packet.now before c.args.rows.now k f (c.in-default-find.ensures.place ∙ ap (row_of es) c.pid.ensures))
+    (no_row_null es c.args.sheet.now.entries c.args.packet.now before c.args.rows.now k f (c.in_default-find.ensures.place ∙ ap (row_of es) c.pid.ensures))

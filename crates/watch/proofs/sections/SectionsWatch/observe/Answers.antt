@@ -25,8 +25,8 @@ returns-in-Some c =
     let d = c.in-Some.ensures.fits in
     omega arith in
     record {
-      answers = c.follow-in.ensures.answers ∙ follows_here es phases y i l found.0 found.1;
-      learns = λ xs x. ap (λ v. sections_from es v xs x) c.follow-in.ensures.moves ∙ follows_more es phases y i l found.0 found.1 xs x;
+      answers = c.follow_in.ensures.answers ∙ follows_here es phases y i l found.0 found.1;
+      learns = λ xs x. ap (λ v. sections_from es v xs x) c.follow_in.ensures.moves ∙ follows_more es phases y i l found.0 found.1 xs x;
     }
 
 pub returns-in-None : goal.returns-in-None

@@ -12,8 +12,8 @@ pub returns : goal.returns
 returns c =
     let u = c.args.payload.now in
     let start = 1 + byte u 0 in
-    c.settled.ensures (bytes_of c.read-all.new.section)
-    ∙ ap settled (c.read-all.ensures
+    c.settled.ensures (bytes_of c.read_all.new.section)
+    ∙ ap settled (c.read_all.ensures
     ∙ ap (λ v. read_all more (section v) (mid_of start (length u - start) u)) c.clear.ensures
     ∙ ap (read_all more (section [])) (take_rest u start))
-    ∙ sym (start_goes (phase_in c.args.stage (bytes_of c.args.section.now)) u c.if-payload-start.false c.in-default-leading.ensures)
+    ∙ sym (start_goes (phase_in c.args.stage (bytes_of c.args.section.now)) u c.if-payload-start.false c.in_default-leading.ensures)

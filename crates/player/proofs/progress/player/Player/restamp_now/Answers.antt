@@ -15,7 +15,7 @@ returns g c =
     let p = c.args.packet.now in
     let j = s.progress.begun - 1 in
     c.restamp.ensures
-    ∙ ap (λ (ts : List ℕ). restamped_by es s.shift ts c.saturating-sub.result p) c.tallies-tallies.ensures
-    ∙ ap (λ k. restamped_by es s.shift (tallies_in s.seen) k p) c.saturating-sub.ensures
+    ∙ ap (λ (ts : List ℕ). restamped_by es s.shift ts c.saturating_sub.result p) c.tallies-tallies.ensures
+    ∙ ap (λ k. restamped_by es s.shift (tallies_in s.seen) k p) c.saturating_sub.ensures
     ∙ ap (λ t. restamped_by es t (tallies_in s.seen) j p) s.shifted
     ∙ moved_ticks es (j * at_row (tallies_in s.seen) (row_of es (pid p))) (j * T) p

@@ -28,8 +28,8 @@ within place n count len e pos few l =
     let m : place % count < count = mod_lt place p in
     (omega arith, omega arith)
 
-pub fetch-round-requires : goal.fetch-round-requires
-fetch-round-requires g c =
+pub fetch_round-requires : goal.fetch_round-requires
+fetch_round-requires g c =
     let s = c.args.self.now in
     let w = g.met.R.Reel.whole s.below in
     within c.args.place s.rounds c.count-count.result (length (g.R.Reel.packets s.below)) c.count-count.ensures w.some (fits s.rounds _ (sym c.if-not-fits.ensures)).few c.if-place-self.false
@@ -37,7 +37,7 @@ fetch-round-requires g c =
 pub returns : goal.returns
 returns g c =
     let s = c.args.self.now in
-    let z = c.fetch-round.new.self in
+    let z = c.fetch_round.new.self in
     let ps : Packets = g.R.Reel.packets s.below in
     let es : List Entry = entries_of s.sheet in
     let qs : Packets = rounds_by es (round_of s.sheet) s.tallies s.rounds ps in
@@ -50,13 +50,13 @@ returns g c =
     let h : i < length qs = omega arith in
     record {
       keeps =
-          ap (λ x. rounds_by (entries_of x) (round_of x) z.tallies z.rounds (g.R.Reel.packets z.below)) c.fetch-round.ensures.same.0
-          ∙ ap (λ (x : List ℕ). rounds_by es (round_of s.sheet) x z.rounds (g.R.Reel.packets z.below)) c.fetch-round.ensures.same.1.0
-          ∙ ap (λ x. rounds_by es (round_of s.sheet) s.tallies x (g.R.Reel.packets z.below)) c.fetch-round.ensures.same.1.1
-          ∙ ap (rounds_by es (round_of s.sheet) s.tallies s.rounds) c.fetch-round.ensures.keeps;
+          ap (λ x. rounds_by (entries_of x) (round_of x) z.tallies z.rounds (g.R.Reel.packets z.below)) c.fetch_round.ensures.same.0
+          ∙ ap (λ (x : List ℕ). rounds_by es (round_of s.sheet) x z.rounds (g.R.Reel.packets z.below)) c.fetch_round.ensures.same.1.0
+          ∙ ap (λ x. rounds_by es (round_of s.sheet) s.tallies x (g.R.Reel.packets z.below)) c.fetch_round.ensures.same.1.1
+          ∙ ap (rounds_by es (round_of s.sheet) s.tallies s.rounds) c.fetch_round.ensures.keeps;
       answers = sym (answers_ok qs i _ l h);
       writes =
-          c.copy-from-slice.ensures.after ∙ c.fetch-round.ensures.writes
+          c.copy_from_slice.ensures.after ∙ c.fetch_round.ensures.writes
           ∙ ap (λ x. round_stamped es (round_of s.sheet) s.tallies (i / x) (get_or ps (i % x) [])) e
           ∙ sym (rounds_at es (round_of s.sheet) s.tallies s.rounds ps ok i k) ∙ sym (writes_ok qs i c.args.buffer.now l h);
     }

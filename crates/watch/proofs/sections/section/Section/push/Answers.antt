@@ -1,7 +1,7 @@
 use Rattle.std.proofs.Common.{sym, arith}
 use Rattle.watch.proofs.Assembling.{long_after, still_unfinished, push_open, push_other}
 use Rattle.watch.proofs.sections.section.Section.push.Goals as goal
-use Rattle.watch.proofs.sections.section.Section.push.Goals.{in-Open, in-default}
+use Rattle.watch.proofs.sections.section.Section.push.Goals.{in-Open, in_default}
 
 pub invariant-of-self-2 : goal.invariant-of-self-2
 invariant-of-self-2 c =
@@ -15,7 +15,7 @@ invariant-of-self-2 c =
               let t = still_unfinished s v (sym w.in-Open.ensures) (omega arith) in
               let a = t.0 in let b = t.1 in
               (omega arith, omega arith)
-          | in-default w ↦ λ h. let e = w.self-is in absurd (omega arith)
+          | in_default w ↦ λ h. let e = w.self-is in absurd (omega arith)
         ],
         tt,
       ),
@@ -26,6 +26,6 @@ returns c =
     let s = c.args.self.now in
     let v = c.args.byte in
     elim c.match-progress.branch [
-      | in-Open w ↦ push_open s v c.progress-of-progress.result c.match-progress.self c.progress-of-progress.ensures w.self-is
-      | in-default w ↦ push_other s v c.progress-of-progress.result c.match-progress.self c.progress-of-progress.ensures w.in-default.not-Open
+      | in-Open w ↦ push_open s v c.progress_of-progress.result c.match-progress.self c.progress_of-progress.ensures w.self-is
+      | in_default w ↦ push_other s v c.progress_of-progress.result c.match-progress.self c.progress_of-progress.ensures w.in_default.not-Open
     ]
