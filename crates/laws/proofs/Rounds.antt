@@ -1,5 +1,5 @@
 -- The endless run: each round is the one before it, moved on.
-use Rattle.std.proofs.Common.{◌≡◌, ℕ, zero, suc, ◌+◌, ◌-◌, ◌*◌, ◌/◌, ◌%◌, ◌^◌, ◌<◌, ◌≤◌, Bool, true, false, cond, not, ◌&&◌, ◌||◌, eqb, ltb, leb, ◌⊎◌, List, [], ◌∷◌, ◌++◌, length, get_or, Some, None, Option, sym, refl, ap, ◌∙◌, subst, inl, inr, mod_lt, mod-eq_of_lt, mul_assoc, mul_comm, add-mul, one-mul, zero-add, zero-mul, arith}
+use Rattle.std.proofs.Common.{◌≡◌, ℕ, zero, suc, ◌+◌, ◌-◌, ◌*◌, ◌/◌, ◌%◌, ◌^◌, ◌<◌, ◌≤◌, Bool, true, false, cond, not, ◌&&◌, ◌||◌, eqb, ltb, leb, ◌⊎◌, List, [], ◌∷◌, ◌++◌, length, get_or, Some, None, Option, sym, refl, ap, ◌∙◌, subst, inl, inr, mod-lt, mod-eq_of_lt, mul_assoc, mul_comm, add-mul, one-mul, zero-add, zero-mul, arith}
 use native.Mathlib.Nat.{add-div_left, add-mod_left, div-eq_of_lt, mul-mod_left}
 use Rattle.std.proofs.lemmas.Bool.{cases_Bool, cond-true, cond-false, and_parts, or_parts, both_ways, eqb-true, eq-eqb, not-false, not-true}
 use Rattle.model.specs.declared.entry.Entry.{Entry}
@@ -55,7 +55,7 @@ module _ (es : List Entry) (T : ℕ) (ps : Packets) (w : Whole ps) (z : T % 300 
   reel_packet i h = record { sized = w.sized i h; small = small_from (get_or ps i []) (λ k l. w.small i k h (let e = w.sized i h in omega arith)) }
 
   pub in_reel : (k : ℕ) → k % n < n
-  in_reel k = mod_lt k pos
+  in_reel k = mod-lt k pos
 
   pub run_packet : (k : ℕ) → Packet (run es T ps k)
   unfolding run

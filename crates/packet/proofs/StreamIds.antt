@@ -34,7 +34,7 @@ ids = up_from 0xE0 16 ++ up_from 0xC0 32 ++ 0xBD ∷ []
 abbrev right : ℕ → ℕ → Bool
 right i _ = agree (member i ids) (house_id i)
 
-pub is_house_id : (i : ℕ) → i < 256 → (r : Bool) → IsAnyAnswer (λ y t. Decides t (y ≡ i)) ids r → r ≡ house_id i
+pub is_house_id : (i : ℕ) → i < 256 → (r : Bool) → IsAnyAnswer (λ y t. eqb y i ≡ t) ids r → r ≡ house_id i
 is_house_id i h r s =
     same_from_decides r (member i ids) (contains_decides eqb Decides-eqb ids i r s) (Decides-by_or (λ x. eqb x i) (λ x. x ≡ i) (member i) (λ x. Decides-eqb x i) refl (λ _ _. refl) ids)
     ∙ agree_same (member i ids) (house_id i) (at right (replicate 256 0) refl i h)

@@ -1,5 +1,5 @@
 -- Lawful histories keep the whole statement.
-use Rattle.std.proofs.Common.{◌≡◌, ℕ, zero, suc, ◌+◌, ◌-◌, ◌*◌, ◌/◌, ◌%◌, ◌<◌, ◌≤◌, Bool, true, false, cond, not, ◌⊎◌, List, [], ◌∷◌, ◌++◌, length, get_or, Some, None, Option, sym, refl, ap, ◌∙◌, subst, inl, inr, mod_lt, add_comm, arith}
+use Rattle.std.proofs.Common.{◌≡◌, ℕ, zero, suc, ◌+◌, ◌-◌, ◌*◌, ◌/◌, ◌%◌, ◌<◌, ◌≤◌, Bool, true, false, cond, not, ◌⊎◌, List, [], ◌∷◌, ◌++◌, length, get_or, Some, None, Option, sym, refl, ap, ◌∙◌, subst, inl, inr, mod-lt, add_comm, arith}
 use mathlib.Core.Path.{fun_ext}
 use Rattle.std.proofs.lemmas.Bool.{both_ways, cases_Bool, ltb-true, ltb-false}
 use native.Mathlib.Nat.{mod-add-div'}
@@ -31,7 +31,7 @@ module _ (es : List Entry) (T : ℕ) (f : Finding) (ps : Packets) (w : Whole ps)
   clean c k None e = refl
   clean c k (Some r) e =
       let q : k / length ps * length ps + k % length ps ≡ k = (add_comm (k / length ps * length ps) (k % length ps) ∙ mod-add-div' k (length ps)) in
-      absurd (c _ (at (k / length ps) (k % length ps) r (mod_lt k w.some) (ap (breach es T f ps) q ∙ e)))
+      absurd (c _ (at (k / length ps) (k % length ps) r (mod-lt k w.some) (ap (breach es T f ps) q ∙ e)))
 
   pub kept : (unit : ℕ) (h : rules.History) → Decides es T f ps (verdict es T f ps) → rules.Lawful es T f ps unit h → rules.Kept es T f ps unit h
   kept unit h d l =

@@ -1,6 +1,6 @@
 -- Rounds of a reel are a reel: the first packets of the endless run.
 use Rattle.std.specs.Prelude.{◌≡◌, ℕ, zero, suc, ◌+◌, ◌*◌, ◌/◌, ◌%◌, ◌<◌, ◌≤◌, Bool, true, false, cond, ◌&&◌, ◌⊎◌, List, [], ◌∷◌, ◌++◌, length, get_or, Option, nat_le, slice_index, slice_index_or, refl}
-use Rattle.std.proofs.Common.{sym, ap, subst, ◌∙◌, inl, inr, mod_lt, mul-pos, mul_comm, div-lt_iff_lt-mul, add-one, arith, length-append}
+use Rattle.std.proofs.Common.{sym, ap, subst, ◌∙◌, inl, inr, mod-lt, mul-pos, mul_comm, div-lt_iff_lt-mul, add-one, arith, length-append}
 use Rattle.std.proofs.Math.ListN.{get_or-append}
 use Rattle.std.proofs.Math.Seq.{get_or-append_seam}
 use Rattle.std.proofs.lemmas.Bool.{cases_Bool, cases_lt, cond-true, cond-false, and_parts, leb-true}
@@ -78,7 +78,7 @@ module _ (es : List Entry) (T : ℕ) (ts : List ℕ) (n : ℕ) (ps : Packets) wh
     stamped_sized : (k : ℕ) → Sized (stamped_at es T ts ps k)
     stamped_sized k =
         let l : 0 < length ps = w.some in
-        let i = mod_lt k l in
+        let i = mod-lt k l in
         (moves_lawfully es _ _ (times300 (k / length ps) T z) (slice_index_or ps (k % length ps) []) (record { long = w.sized (k % length ps) i; small = λ b h. w.small (k % length ps) b i h })).sized
 
     pub rounds_whole : Whole (rounds_by es T ts n ps)

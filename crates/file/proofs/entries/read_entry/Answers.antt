@@ -12,8 +12,8 @@ use Rattle.file.proofs.entries.read_entry.Goals as goal
 pub returns : goal.returns
 returns c =
     let b = c.args.bytes.now in
-    let k = c.in-ok-kind.kind in
-    let r = kind_read (byte b 2) k c.in-ok-kind.ensures in
+    let k = c.in_ok-kind.kind in
+    let r = kind_read (byte b 2) k c.in_ok-kind.ensures in
     let z : byte b 3 ≡ 0 = search rules in
     let t : is_entry b ≡ true = and_from _ _ (le-leb _ _ r.small) (eq-eqb _ _ z) in
     let p : written 2 c.number-pid.result ≡ take 2 b = part_written b 0 2 c.number-pid.result (omega arith) c.number-pid.ensures.again in

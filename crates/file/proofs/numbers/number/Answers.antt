@@ -7,11 +7,11 @@ use Rattle.file.proofs.Digits.{written_more, bound_more, bound_seven}
 use Rattle.model.specs.File.{written}
 use Rattle.file.proofs.numbers.number.Goals as goal
 
-pub overflow-mul-sum : goal.overflow-mul-sum
-overflow-mul-sum c = let b : c.loop-byte.sum < 2 ^ 56 = bound_seven c.loop-byte.byte-index c.loop-byte.sum (omega arith) c.loop-byte.invariant.1 in omega arith
+pub overflow_mul-sum : goal.overflow_mul-sum
+overflow_mul-sum c = let b : c.loop-byte.sum < 2 ^ 56 = bound_seven c.loop-byte.byte-index c.loop-byte.sum (omega arith) c.loop-byte.invariant.1 in omega arith
 
-pub overflow-add-sum : goal.overflow-add-sum
-overflow-add-sum c = let b : c.loop-byte.sum < 2 ^ 56 = bound_seven c.loop-byte.byte-index c.loop-byte.sum (omega arith) c.loop-byte.invariant.1 in omega arith
+pub overflow_add-sum : goal.overflow_add-sum
+overflow_add-sum c = let b : c.loop-byte.sum < 2 ^ 56 = bound_seven c.loop-byte.byte-index c.loop-byte.sum (omega arith) c.loop-byte.invariant.1 in omega arith
 
 pub loop-byte-preserved : goal.loop-byte-preserved
 loop-byte-preserved c =

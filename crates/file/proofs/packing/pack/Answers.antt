@@ -7,23 +7,23 @@ use Rattle.file.specs.Packing.{file_of}
 use Rattle.file.proofs.Packed.{accepted, tail_size, tail_written_lem, read_packed}
 use Rattle.file.proofs.packing.pack.Goals as goal
 
-pub returns-in-err-extend_from_slice : goal.returns-in-err-extend_from_slice
-returns-in-err-extend_from_slice c =
+pub returns-in_err-extend_from_slice : goal.returns-in_err-extend_from_slice
+returns-in_err-extend_from_slice c =
     let v = c.args.packets.now in
     let ps = vec_items v in
     let s = text_of c.args.sheet.now in
-    let n = c.in-ok-len.len in
+    let n = c.in_ok-len.len in
     let o = c.write_tail.new.buffer in
     let size = c.len-size.result in
     let all : size ≡ length ps = c.len-size.ensures ∙ v.ok.0 in
-    let h = c.in-ok-len.ensures.answers in
+    let h = c.in_ok-len.ensures.answers in
     let whole : size % 188 ≡ 0 = omega arith in
-    let p = err_from_is_err_and c.from-residual-in-err-extend_from_slice.result c.from-residual-in-err-extend_from_slice.ensures.1 in
+    let p = err_from_is_err_and c.from_residual-in_err-extend_from_slice.result c.from_residual-in_err-extend_from_slice.ensures.1 in
     rw (p.1, p.2) (record {
       answers = accepted ps s size n 88 all h whole;
-      writes = c.in-err-extend_from_slice.ensures.items;
+      writes = c.in_err-extend_from_slice.ensures.items;
       opens = tt;
-      room = (let t = tail_size ps s size n 88 all h in let w = c.in-err-extend_from_slice.ensures.full in let k = v.ok.0 in omega (arith, length-append ps (tail (file_of ps s)), length-take (n - 0) o));
+      room = (let t = tail_size ps s size n 88 all h in let w = c.in_err-extend_from_slice.ensures.full in let k = v.ok.0 in omega (arith, length-append ps (tail (file_of ps s)), length-take (n - 0) o));
     })
 
 pub returns : goal.returns
@@ -31,16 +31,16 @@ returns c =
     let v = c.args.packets.now in
     let ps = vec_items v in
     let s = text_of c.args.sheet.now in
-    let n = c.in-ok-len.len in
+    let n = c.in_ok-len.len in
     let o = c.write_tail.new.buffer in
     let size = c.len-size.result in
     let all : size ≡ length ps = c.len-size.ensures ∙ v.ok.0 in
-    let h = c.in-ok-len.ensures.answers in
+    let h = c.in_ok-len.ensures.answers in
     let whole : size % 188 ≡ 0 = omega arith in
-    let put : vec_items c.extend_from_slice.new.self ≡ ps ++ take (n - 0) o = c.in-ok-extend_from_slice.ensures.items in
+    let put : vec_items c.extend_from_slice.new.self ≡ ps ++ take (n - 0) o = c.in_ok-extend_from_slice.ensures.items in
     record {
       answers = accepted ps s size n 88 all h whole;
-      writes = put ∙ ap (λ (x : Bytes). ps ++ x) (tail_written_lem ps s size n 88 all h _ o c.in-ok-len.ensures.writes);
-      opens = ap opened put ∙ read_packed ps s size n 88 all h o whole c.in-ok-len.ensures.back;
+      writes = put ∙ ap (λ (x : Bytes). ps ++ x) (tail_written_lem ps s size n 88 all h _ o c.in_ok-len.ensures.writes);
+      opens = ap opened put ∙ read_packed ps s size n 88 all h o whole c.in_ok-len.ensures.back;
       room = tt;
     }

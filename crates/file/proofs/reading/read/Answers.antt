@@ -29,13 +29,13 @@ returns-then-is_bad_distance c =
       again = tt;
     }
 
-pub returns-in-err-sheet : goal.returns-in-err-sheet
-returns-in-err-sheet c =
+pub returns-in_err-sheet : goal.returns-in_err-sheet
+returns-in_err-sheet c =
     let f = c.args.file.now in
     let r = trailer_read f c.in-Some.trailer c.in-Some.ensures.answers in
-    let p = err_from_is_err_and c.from-residual.result c.from-residual.ensures.1 in
+    let p = err_from_is_err_and c.from_residual.result c.from_residual.ensures.1 in
     rw (p.1, p.2) (record {
-      answers = past f c.in-Some.trailer _ r.0 r.1 (sym c.if-is_bad_distance.ensures) (sym c.if-is_bad_count.ensures) c.in-err-sheet.ensures.answers;
+      answers = past f c.in-Some.trailer _ r.0 r.1 (sym c.if-is_bad_distance.ensures) (sym c.if-is_bad_count.ensures) c.in_err-sheet.ensures.answers;
       again = tt;
     })
 
@@ -43,13 +43,13 @@ pub returns : goal.returns
 returns c =
     let f = c.args.file.now in
     let t = c.in-Some.trailer in
-    let s = text_of c.in-ok-sheet.sheet in
+    let s = text_of c.in_ok-sheet.sheet in
     let r = trailer_read f t c.in-Some.ensures.answers in
     let bad = sym c.if-is_bad_distance.ensures in
     let g = fitting (length f) t.distance bad in
-    let h = unless_ok _ s _ (c.in-ok-sheet.ensures.answers ∙ sheet_slice f t.distance t.rate t.round g) in
+    let h = unless_ok _ s _ (c.in_ok-sheet.ensures.answers ∙ sheet_slice f t.distance t.rate t.round g) in
     record {
-      answers = past f t (Ok s) r.0 r.1 bad (sym c.if-is_bad_count.ensures) c.in-ok-sheet.ensures.answers;
+      answers = past f t (Ok s) r.0 r.1 bad (sym c.if-is_bad_count.ensures) c.in_ok-sheet.ensures.answers;
       again = tail_again f t s g (sym c.if-is_bad_count.ensures) c.in-Some.ensures.again h
-          (c.in-ok-sheet.ensures.again ∙ slice_front f t.distance g);
+          (c.in_ok-sheet.ensures.again ∙ slice_front f t.distance g);
     }

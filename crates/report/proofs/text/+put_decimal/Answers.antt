@@ -24,8 +24,8 @@ put_decimal-end-requires t c = let h = more_digits c.args.n (search rules) (sear
 pub bounds-out-end : goal.bounds-out-end
 bounds-out-end t c = let h = more_digits c.args.n (search rules) (search rules) in omega arith
 
-pub overflow-add-result-2 : goal.overflow-add-result-2
-overflow-add-result-2 t c = let h = more_digits c.args.n (search rules) (search rules) in omega arith
+pub overflow_add-result-2 : goal.overflow_add-result-2
+overflow_add-result-2 t c = let h = more_digits c.args.n (search rules) (search rules) in omega arith
 
 pub returns : goal.returns
 returns t c =

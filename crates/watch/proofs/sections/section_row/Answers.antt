@@ -21,8 +21,8 @@ pub returns-then-ne : goal.returns-then-ne
 returns-then-ne c =
     let p = c.args.packet.now in
     let es = entries_of c.args.sheet.now in
-    let listed = c.in-ok-listed.listed in
-    let k : kind_of es (pid p) ≡ Some listed.kind = ap (kind_of es) (sym c.pid.ensures) ∙ sym c.in-ok-listed.ensures.kind in
+    let listed = c.in_ok-listed.listed in
+    let k : kind_of es (pid p) ≡ Some listed.kind = ap (kind_of es) (sym c.pid.ensures) ∙ sym c.in_ok-listed.ensures.kind in
     let n : listed.kind ≡ Sections → ⊥ = search rules in
     record {
       row = λ place. second_none (row_of es (pid p)) None (sound es p) (is_sections (kind_of es (pid p))) (eqb (pid p) (pid p)) (has_payload p) (ap is_sections k ∙ not_sections listed.kind n);
@@ -33,10 +33,10 @@ pub returns : goal.returns
 returns c =
     let p = c.args.packet.now in
     let es = entries_of c.args.sheet.now in
-    let listed = c.in-ok-listed.listed in
+    let listed = c.in_ok-listed.listed in
     let e : listed.kind ≡ Sections = search rules in
-    let k : kind_of es (pid p) ≡ Some Sections = ap (kind_of es) (sym c.pid.ensures) ∙ sym c.in-ok-listed.ensures.kind ∙ ap Some e in
-    let r : row_of es (pid p) ≡ Some listed.place = ap (row_of es) (sym c.pid.ensures) ∙ sym c.in-ok-listed.ensures.place in
+    let k : kind_of es (pid p) ≡ Some Sections = ap (kind_of es) (sym c.pid.ensures) ∙ sym c.in_ok-listed.ensures.kind ∙ ap Some e in
+    let r : row_of es (pid p) ≡ Some listed.place = ap (row_of es) (sym c.pid.ensures) ∙ sym c.in_ok-listed.ensures.place in
     let s : sound es p ≡ true = sym (c.is_sound.ensures es k) ∙ c.if-not-is_sound.false in
     record {
       row = λ place. sym (cond-true (carries es (pid p) (record { place = place; bytes = p })) (row_of es (pid p)) None (carries_from es place p s k (sym c.if-not-has_payload.ensures)) ∙ r);

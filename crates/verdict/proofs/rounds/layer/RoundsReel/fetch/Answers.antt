@@ -1,4 +1,4 @@
-use Rattle.std.proofs.Common.{◌≡◌, ℕ, ◌+◌, ◌*◌, ◌/◌, ◌%◌, ◌<◌, ◌≤◌, List, [], length, get_or, sym, refl, ap, ◌∙◌, subst, mod_lt, div-lt_iff_lt-mul, arith, rules}
+use Rattle.std.proofs.Common.{◌≡◌, ℕ, ◌+◌, ◌*◌, ◌/◌, ◌%◌, ◌<◌, ◌≤◌, List, [], length, get_or, sym, refl, ap, ◌∙◌, subst, mod-lt, div-lt_iff_lt-mul, arith, rules}
 use Rattle.model.specs.declared.entry.Entry.{Entry}
 use Rattle.model.specs.Runs.{Packets}
 use Rattle.model.specs.Sheets.{entries_of, round_of}
@@ -25,7 +25,7 @@ within : (place n count len : ℕ) → count ≡ len → 0 < len → n ≤ 10000
 within place n count len e pos few l =
     let p : 0 < count = omega arith in
     let d : place / count < n = (div-lt_iff_lt-mul p).1 l in
-    let m : place % count < count = mod_lt place p in
+    let m : place % count < count = mod-lt place p in
     (omega arith, omega arith)
 
 pub fetch_round-requires : goal.fetch_round-requires

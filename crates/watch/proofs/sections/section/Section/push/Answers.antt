@@ -3,8 +3,8 @@ use Rattle.watch.proofs.Assembling.{long_after, still_unfinished, push_open, pus
 use Rattle.watch.proofs.sections.section.Section.push.Goals as goal
 use Rattle.watch.proofs.sections.section.Section.push.Goals.{in-Open, in_default}
 
-pub invariant-of-self-2 : goal.invariant-of-self-2
-invariant-of-self-2 c =
+pub invariant_of-self-2 : goal.invariant_of-self-2
+invariant_of-self-2 c =
     let s = c.args.self.now in
     let v = c.args.byte in (
       long_after s v,
