@@ -1,9 +1,8 @@
 -- Numbers and the bytes that write them.
-use Rattle.std.proofs.Common.{◌≡◌, ℕ, zero, suc, ◌+◌, ◌*◌, ◌/◌, ◌%◌, ◌^◌, ◌<◌, ◌≤◌, List, [], ◌∷◌, ◌++◌, length, get_or, take, drop, sym, refl, ap, ◌∙◌, lt_of_lt_of_le, pow-suc, add-one, arith, lit≤, length-append}
+use Rattle.std.proofs.Common.{◌≡◌, ℕ, zero, suc, ◌+◌, ◌*◌, ◌/◌, ◌%◌, ◌^◌, ◌<◌, ◌≤◌, List, [], ◌∷◌, ◌++◌, length, refl, ap, ◌∙◌, lt_of_lt_of_le, pow-suc, add-one, arith, lit≤, length-append}
 use native.Mathlib.Nat.{pow-le-pow_right}
 use Rattle.std.specs.Int.Digits.{number_from_digits}
-use Rattle.std.proofs.lemmas.Int.Digits.{number_push, number_more}
-use Rattle.std.proofs.lemmas.List.{take_more}
+use Rattle.std.proofs.lemmas.Int.Digits.{number_push}
 use Rattle.model.specs.File.{written}
 
 div_digit : (x d : ℕ) → d < 256 → (x * 256 + d) / 256 ≡ x

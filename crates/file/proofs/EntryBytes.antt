@@ -1,11 +1,11 @@
 -- Entries and the bytes that write them.
-use Rattle.std.proofs.Common.{◌≡◌, ℕ, zero, suc, ◌+◌, ◌-◌, ◌*◌, ◌/◌, ◌%◌, ◌<◌, ◌≤◌, Bool, true, false, cond, ◌&&◌, eqb, leb, List, [], ◌∷◌, ◌++◌, length, get_or, take, drop, Some, None, Option, sym, refl, ap, ◌∙◌, inl, inr, append_assoc, append-nil, add-one, arith, take-add}
-use Rattle.std.proofs.lemmas.Bool.{cases_Bool, cond-true, cond-false, leb-true, and_left, le-leb, eq-eqb, both_ways}
+use Rattle.std.proofs.Common.{◌≡◌, ℕ, zero, suc, ◌+◌, ◌*◌, ◌≤◌, true, false, ◌&&◌, leb, List, [], ◌∷◌, ◌++◌, length, take, Some, None, sym, refl, ap, ◌∙◌, inl, inr, append_assoc, append-nil, add-one, arith, take-add}
+use Rattle.std.proofs.lemmas.Bool.{cases_Bool, cond-true, cond-false, leb-true, and_left}
 use Rattle.model.specs.declared.entry.Entry.{Entry}
 use Rattle.model.specs.declared.entry.Kind.{Kind}
 use Rattle.model.specs.Entries.{kind_number}
 use Rattle.model.specs.Packet.{Bytes, byte}
-use Rattle.model.specs.File.{kind_at, entry_of, is_entry, entry_part, entries_in, are_entries, entry_bytes, entries_bytes, written}
+use Rattle.model.specs.File.{kind_at, entry_of, is_entry, entry_part, entries_in, are_entries, entry_bytes, entries_bytes}
 use Rattle.file.specs.Entries.{kind_in, entry_in}
 
 -- a number up to 2 is that of its kind

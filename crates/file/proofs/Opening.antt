@@ -1,5 +1,5 @@
 -- Reading a file, refusal by refusal.
-use Rattle.std.proofs.Common.{◌≡◌, ℕ, zero, suc, ◌+◌, ◌-◌, ◌*◌, ◌/◌, ◌%◌, ◌<◌, ◌≤◌, Bool, true, false, cond, not, ◌&&◌, ◌||◌, eqb, ltb, leb, List, [], ◌∷◌, ◌++◌, length, take, drop, Some, None, Ok, Err, Option, Result, sym, refl, ap, ◌∙◌, inl, inr, arith, length-append, length-drop, take-append-drop, length-take, take-take}
+use Rattle.std.proofs.Common.{◌≡◌, ℕ, zero, suc, ◌+◌, ◌-◌, ◌*◌, ◌/◌, ◌%◌, ◌≤◌, true, false, not, ◌&&◌, eqb, ltb, leb, List, [], ◌∷◌, ◌++◌, length, take, drop, Some, None, Ok, Err, Option, Result, sym, refl, ap, ◌∙◌, inl, inr, arith, length-append, length-drop, take-append-drop, length-take, take-take}
 use Rattle.std.proofs.lemmas.Bool.{cases_Bool, cond-true, cond-false, le-leb, or_parts, and_parts, not-false, leb-true, eqb-true, ltb-false}
 use Rattle.model.specs.declared.entry.Entry.{Entry}
 use Rattle.model.specs.declared.refusal.Refusal.{Refusal}
@@ -7,9 +7,9 @@ use Rattle.model.specs.declared.sheet.Sheet.{Sheet}
 use Rattle.model.specs.Entries.{lawful}
 use Rattle.model.specs.Packet.{Bytes}
 use Rattle.model.specs.Refusals.{outcome}
-use Rattle.model.specs.Sheets.{SheetText, text_of, entries_of, bad_timing, bad_entries, made}
+use Rattle.model.specs.Sheets.{SheetText, text_of, bad_timing, bad_entries, made}
 use Rattle.model.specs.Tests.{first_broken, unless}
-use Rattle.model.specs.File.{FileText, last, entry_of, entry_part, entries_in, are_entries, entries_bytes, opened, no_trailer, bad_distance, bad_count, rate_in, round_in, count_in, distance_in, bad_number, tail, tail_length, trailer_bytes}
+use Rattle.model.specs.File.{FileText, last, entries_in, are_entries, entries_bytes, opened, no_trailer, bad_distance, bad_count, rate_in, round_in, count_in, distance_in, bad_number, tail, tail_length, trailer_bytes}
 use Rattle.file.proofs.Parts.{last_last}
 use Rattle.file.specs.Reading.{sheet_in, SameEntries}
 use Rattle.file.specs.Trailers.{trailer_in, trailer_of, bytes_of}

@@ -1,7 +1,6 @@
 -- Packets followed by a tail are read back as what the tail was written for.
-use Rattle.std.proofs.Common.{◌≡◌, ℕ, zero, suc, ◌+◌, ◌-◌, ◌*◌, ◌/◌, ◌%◌, ◌^◌, ◌<◌, ◌≤◌, Bool, true, false, cond, not, ◌&&◌, ◌||◌, eqb, ltb, leb, List, [], ◌∷◌, ◌++◌, length, get_or, take, drop, Ok, Err, Result, sym, refl, ap, ◌∙◌, append_assoc, lt_of_le_of_lt, mul-suc, arith, lit<, length-append, length-drop, length-take, drop-cons, take-suc, take_at, drop_at}
+use Rattle.std.proofs.Common.{◌≡◌, ℕ, zero, suc, ◌+◌, ◌-◌, ◌*◌, ◌/◌, ◌%◌, ◌^◌, ◌<◌, ◌≤◌, true, false, not, ◌&&◌, eqb, ltb, leb, List, [], ◌∷◌, ◌++◌, length, get_or, take, drop, Ok, sym, refl, ap, ◌∙◌, append_assoc, lt_of_le_of_lt, arith, lit<, length-append, drop-cons, take-suc, take_at, drop_at}
 use lib.Seq.{drop-nil, take-length, drop-append-add}
-use Rattle.std.specs.Int.Digits.{number_from_digits as value}
 use Rattle.std.specs.Str.{bytes_eq as sameBytes}
 use Rattle.std.proofs.lemmas.Slice.Eq.{bytes_eq-Decides}
 use Rattle.std.proofs.lemmas.Bool.{and_from, and_parts, or_from, leb-true, le-leb, le-ltb, eq-eqb, not_from_true}
@@ -10,9 +9,9 @@ use Rattle.model.specs.declared.entry.Kind.{Kind}
 use Rattle.model.specs.declared.entry.Kind.TheVariants.{Pes, Sections, Clock}
 use Rattle.model.specs.Entries.{kind_number, lawful, kind_of, listed}
 use Rattle.model.specs.Packet.{Bytes}
-use Rattle.model.specs.Sheets.{SheetText, bad_timing, bad_entries}
+use Rattle.model.specs.Sheets.{bad_timing}
 use Rattle.model.specs.Tests.{first_broken, unless}
-use Rattle.model.specs.File.{FileText, written, mark, entry_bytes, entries_bytes, tail_length, trailer_bytes, tail, last, rate_in, round_in, count_in, distance_in, no_trailer, bad_distance, bad_count, bad_number, kind_at, entry_of, is_entry, entry_part, entries_in, are_entries, opened}
+use Rattle.model.specs.File.{FileText, mark, entry_bytes, entries_bytes, tail_length, trailer_bytes, tail, last, rate_in, round_in, count_in, distance_in, no_trailer, bad_distance, bad_count, kind_at, entry_of, is_entry, entry_part, entries_in, are_entries, opened}
 use Rattle.model.proofs.Searches.{no_entry}
 use Rattle.file.specs.Reading.{sheet_in}
 use Rattle.file.proofs.Digits.{number_written}

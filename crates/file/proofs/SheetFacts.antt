@@ -1,5 +1,5 @@
 -- What every sheet keeps.
-use Rattle.std.proofs.Common.{◌≡◌, ◌^◌, ◌<◌, ◌≤◌, Bool, true, false, length, take, sym, refl, ap, ◌∙◌, arith, length-take}
+use Rattle.std.proofs.Common.{◌≡◌, ◌^◌, ◌<◌, ◌≤◌, false, length, arith, length-take}
 use Rattle.std.proofs.lemmas.Bool.{and_from, or_from, not_from_true, le-leb, eq-eqb}
 use Rattle.model.specs.declared.sheet.Sheet.{Sheet}
 use Rattle.model.specs.Sheets.{entries_of, rate_of, round_of, bad_timing}

@@ -1,5 +1,5 @@
 -- A whole file made of packets and a sheet.
-use Rattle.std.specs.Prelude.{◌≡◌, ℕ, ◌+◌, ◌/◌, ◌<◌, List, [], ◌∷◌, ◌++◌, length, Some, None, Ok, Err, Option, Result}
+use Rattle.std.specs.Prelude.{◌≡◌, ℕ, ◌/◌, ◌<◌, [], ◌∷◌, ◌++◌, length, Some, None, Ok, Err, Option, Result}
 use Rattle.model.specs.File.{FileText, tail, opened}
 use Rattle.model.specs.Packet.{Bytes}
 use Rattle.model.specs.Reels.{bad_bytes}

@@ -1,5 +1,5 @@
 -- What reading a file answers, as the program holds it.
-use Rattle.std.specs.Prelude.{◌≡◌, ℕ, ◌*◌, Bool, true, false, not, ◌&&◌, List, [], ◌∷◌, take, drop, Ok, Err, Result}
+use Rattle.std.specs.Prelude.{◌≡◌, ℕ, ◌*◌, not, ◌&&◌, [], ◌∷◌, take, drop, Ok, Err, Result}
 use Rattle.model.specs.declared.refusal.Refusal.{Refusal}
 use Rattle.model.specs.declared.sheet.Sheet.{Sheet}
 use Rattle.model.specs.Entries.{lawful}

@@ -1,5 +1,5 @@
 -- A trailer as it is held.
-use Rattle.std.specs.Prelude.{◌≡◌, ℕ, Bool, true, false, cond, Some, None, Option}
+use Rattle.std.specs.Prelude.{◌≡◌, cond, Some, None, Option}
 use Rattle.model.specs.Packet.{Bytes}
 use Rattle.model.specs.File.{last, rate_in, round_in, count_in, distance_in, no_trailer, trailer_bytes}
 use Rattle.file.specs.declared.trailer.Trailer.{Trailer}

@@ -1,13 +1,9 @@
-use Rattle.std.proofs.Common.{◌≡◌, ℕ, zero, suc, ◌+◌, ◌-◌, ◌*◌, ◌/◌, ◌%◌, ◌^◌, ◌<◌, ◌≤◌, Bool, true, false, cond, not, ◌&&◌, ◌||◌, eqb, ltb, leb, ◌⊎◌, List, [], ◌∷◌, ◌++◌, length, get_or, take, drop, set, Some, None, Option, sym, refl, ap, ◌∙◌, subst, inl, inr, arith, lit<}
-use Rattle.std.proofs.lemmas.Bool.{cases_Bool, cond-true, cond-false}
-use Rattle.std.proofs.lemmas.List.{drop-set-lt, length-set}
+use Rattle.std.proofs.Common.{◌≡◌, ℕ, ◌+◌, ◌*◌, ◌/◌, ◌%◌, ◌^◌, ◌<◌, ◌≤◌, eqb, ltb, List, [], ◌∷◌, length, refl, ap, arith, lit<}
 use Rattle.model.specs.declared.entry.Entry.{Entry}
-use Rattle.model.specs.Entries.{kind_of, listed, is_clock}
-use Rattle.model.specs.Packet.{Bytes, byte, bit, has_sync_byte, transport_error, payload_unit_start, has_payload, has_adaptation_field, pid, scrambling_control, is_null, adaptation_field_length, adaptation_flags, has_pcr, pcr_extension, pcr_base, pcr, continuity_counter, payload_place, payload}
-use Rattle.model.specs.Form.{form, sound, adaptation_stuffing}
-use Rattle.laws.proofs.Small.{Small, small_at, small_set}
-use Rattle.model.specs.Moves.{set_counter, set_pcr, W, move_header}
-use Rattle.model.specs.Tests.{is_none}
+use Rattle.model.specs.Packet.{Bytes, byte, payload_unit_start, has_payload, has_adaptation_field, pid, scrambling_control, adaptation_flags, pcr_extension, pcr_base, pcr, payload_place}
+use Rattle.model.specs.Form.{form, adaptation_stuffing}
+use Rattle.laws.proofs.Small.{Small, small_at}
+use Rattle.model.specs.Moves.{set_pcr, W}
 
 -- 188 bytes
 pub record Packet (p : Bytes) : Type 0 where

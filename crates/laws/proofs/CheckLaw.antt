@@ -1,10 +1,10 @@
 -- The check of two rounds decides all rounds.
-use Rattle.std.proofs.Common.{◌≡◌, ℕ, zero, suc, ◌+◌, ◌-◌, ◌*◌, ◌%◌, ◌<◌, ◌≤◌, Bool, true, false, cond, not, ◌&&◌, ◌||◌, ◌⊎◌, ◌↔◌, List, [], ◌∷◌, ◌++◌, length, Some, None, Option, sym, refl, ap, ◌∙◌, subst, inl, inr, suc-le-suc, zero-le, add-zero, add-suc, suc-add, one-mul, zero-add, zero-mul, arith}
+use Rattle.std.proofs.Common.{◌≡◌, ℕ, zero, suc, ◌+◌, ◌-◌, ◌*◌, ◌%◌, ◌<◌, ◌≤◌, true, cond, ◌⊎◌, List, length, Some, None, Option, sym, refl, ap, ◌∙◌, subst, inl, inr, suc-le-suc, zero-le, add-zero, one-mul, zero-add, zero-mul, arith}
 use Rattle.std.proofs.lemmas.Bool.{cases_Bool, cond-true, cond-false, both_ways, cases_lt, cases_order}
 use Rattle.model.specs.declared.entry.Entry.{Entry}
 use Rattle.model.specs.Runs.{Packets, run, past}
 use Rattle.model.specs.Watches.{Whole, Finding, found, breach, basic, RoundLaw}
-use Rattle.model.specs.Breaches.{all_clocked, Breach, Broken, at, unclocked, Clean, Later, first_or, first_in, in_round, verdict, Decides}
+use Rattle.model.specs.Breaches.{all_clocked, Breach, Broken, at, unclocked, Later, first_or, first_in, in_round, verdict, Decides}
 use Rattle.laws.proofs.Loop.{all_fine}
 use Rattle.laws.proofs.StampsLaw.{fine_from}
 use Rattle.model.specs.Tests.{or_else}

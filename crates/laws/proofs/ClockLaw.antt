@@ -1,22 +1,21 @@
 -- The round law of the clock watch.
-use Rattle.std.proofs.Common.{◌≡◌, ℕ, zero, suc, ◌+◌, ◌-◌, ◌*◌, ◌%◌, ◌<◌, ◌≤◌, Bool, true, false, cond, not, ◌&&◌, ◌||◌, eqb, ltb, leb, ◌⊎◌, List, [], ◌∷◌, ◌++◌, map, length, Some, None, Option, sym, refl, ap, ◌∙◌, subst, inl, inr, arith}
-use Rattle.std.proofs.lemmas.Bool.{cases_Bool, cond-true, cond-false, and_parts, and_from, both_ways, eqb-true, eq-eqb, leb-true, leb-false, le-leb, lt-leb, cases_lt}
+use Rattle.std.proofs.Common.{◌≡◌, ℕ, zero, suc, ◌+◌, ◌-◌, ◌%◌, ◌<◌, ◌≤◌, Bool, true, false, cond, eqb, leb, List, [], ◌∷◌, ◌++◌, map, length, Some, None, Option, sym, refl, ap, ◌∙◌, subst, inl, inr, arith}
+use Rattle.std.proofs.lemmas.Bool.{cases_Bool, cond-true, cond-false, and_parts, and_from, both_ways, eqb-true, leb-true, le-leb, cases_lt}
 use Rattle.model.specs.declared.entry.Entry.{Entry}
 use Rattle.model.specs.declared.entry.Kind.{Kind}
 use Rattle.model.specs.Entries.{kind_of, is_clock, listed}
 use Rattle.model.specs.Packet.{Bytes, pid, has_pcr, pcr}
 use Rattle.model.specs.Form.{sound}
 use Rattle.model.specs.Moves.{W, moves}
-use Rattle.model.specs.Runs.{Packets, Placed, run, past, before, observed, is_observed}
-use Rattle.model.specs.Watches.{Whole, Finding, found, breach, basic, RoundLaw}
-use Rattle.model.specs.Clock.{carries_pcr, later, last_pcr, elapsed, distance, too_far, off_rate, judged, clock_finding}
+use Rattle.model.specs.Runs.{Packets, Placed, run, before, observed, is_observed}
+use Rattle.model.specs.Watches.{Whole, Finding, RoundLaw}
+use Rattle.model.specs.Clock.{carries_pcr, later, last_pcr, elapsed, judged, clock_finding}
 use Rattle.laws.proofs.Bytes.{Packet, clock_lt}
 use Rattle.laws.proofs.SoundForm.{clock_extension}
 use Rattle.laws.proofs.Moved.{long_packet}
-use Rattle.laws.proofs.Rounds.{run_packet, onward, on_sound, on_pid, on_clock, on_value}
-use Rattle.laws.proofs.Loop.{Fine, shift, here, shift_here, law_from, observed_next?, next}
+use Rattle.laws.proofs.Rounds.{run_packet, on_sound, on_pid, on_clock, on_value}
+use Rattle.laws.proofs.Loop.{Fine, shift, shift_here, law_from, observed_next?}
 use Rattle.laws.proofs.StampsLaw.{fine_from, found_from}
-use Rattle.model.specs.Tests.{first_broken}
 
 abbrev onto : (Placed → Placed) → Option Placed → Option Placed
 onto g None = None

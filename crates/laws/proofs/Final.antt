@@ -1,16 +1,15 @@
 -- The theorems, put together.
-use Rattle.std.proofs.Common.{◌≡◌, ℕ, ◌+◌, ◌*◌, ◌%◌, ◌<◌, ◌≤◌, Bool, true, false, cond, List, [], ◌∷◌, length, get_or, Some, None, Option, sym, refl, ap, ◌∙◌, subst, arith}
-use Rattle.model.specs.declared.entry.Entry.{Entry}
-use Rattle.model.specs.Packet.{Bytes, byte}
-use Rattle.model.specs.Runs.{Packets, run, past, observed, is_observed}
-use Rattle.model.specs.Watches.{Whole, Finding, found, breach, basic, RoundLaw, bank}
-use Rattle.laws.specs.Theorems.{Sized, MoveLaws, MovesLawfully, ContinuesForever, StampsKeep, ClockKeeps, SectionsKeep, BankKeeps, CheckDecides}
+use Rattle.std.proofs.Common.{◌≡◌, ℕ, ◌*◌, ◌<◌, Bool, true, false, cond, length, None, Option, refl, ap, ◌∙◌, arith}
+use Rattle.model.specs.Packet.{Bytes}
+use Rattle.model.specs.Runs.{run, past, observed, is_observed}
+use Rattle.model.specs.Watches.{Finding, found, breach, basic, bank}
+use Rattle.laws.specs.Theorems.{Sized, MovesLawfully, ContinuesForever, StampsKeep, ClockKeeps, SectionsKeep, BankKeeps, CheckDecides}
 use Rattle.laws.proofs.Small.{small_from, small_at}
 use Rattle.laws.proofs.Bytes.{Packet}
 use Rattle.laws.proofs.Moved.{moved_packet, moved_form, moved_pid, moved_start, moved_flag, moved_clock, moved_place, moved_stampable, moved_pts, moved_dts, moved_continuity_counter, moved_value, moved_add}
 use Rattle.laws.proofs.Rounds.{moved_same}
 use Rattle.laws.proofs.Loop.{or_else_none, all_fine}
-use Rattle.laws.proofs.StampsLaw.{stamps_law, found_from}
+use Rattle.laws.proofs.StampsLaw.{stamps_law}
 use Rattle.laws.proofs.ClockLaw.{clock_law}
 use Rattle.laws.proofs.SectionsLaw.{sections_law}
 use Rattle.laws.proofs.CheckLaw.{check_decides}

@@ -1,12 +1,12 @@
 -- The counter and the clock value moved on.
-use Rattle.std.proofs.Common.{◌≡◌, ℕ, zero, suc, ◌+◌, ◌-◌, ◌*◌, ◌/◌, ◌%◌, ◌^◌, ◌<◌, ◌≤◌, Bool, true, false, cond, not, ◌&&◌, ◌||◌, eqb, ltb, leb, ◌⊎◌, List, [], ◌∷◌, ◌++◌, length, get_or, take, drop, set, sym, refl, ap, ◌∙◌, subst, inl, inr, arith, lit<}
+use Rattle.std.proofs.Common.{◌≡◌, ℕ, ◌+◌, ◌%◌, ◌<◌, ◌≤◌, true, false, ◌∷◌, length, take, drop, sym, refl, ap, ◌∙◌, inl, inr, arith}
 use lib.Seq.{take-set-lt}
 use Rattle.std.proofs.lemmas.Bool.{cases_Bool, cond-true, cond-false}
 use Rattle.std.proofs.lemmas.List.{drop-set-lt, length-set, get_or-take}
-use Rattle.model.specs.Packet.{Bytes, byte, bit, adaptation_flags, has_pcr, pcr_extension, pcr_base, pcr, continuity_counter, payload_place, payload}
+use Rattle.model.specs.Packet.{Bytes, byte, bit, has_pcr, pcr_extension, pcr, continuity_counter}
 use Rattle.model.specs.Moves.{set_counter, set_pcr, W, move_header}
 use Rattle.laws.proofs.Small.{Small, small_at, small_set}
-use Rattle.laws.proofs.Bytes.{Long, long, view, Packet, Like, like_adaptation_flags, clock_set, extension_set, clock_again, clock_same, clock_lt}
+use Rattle.laws.proofs.Bytes.{Long, long, Packet, Like, like_adaptation_flags, clock_set, extension_set, clock_again, clock_same, clock_lt}
 
 pub like_trans : (p q r : Bytes) → Like p q → Like q r → Like p r
 like_trans p q r a b = record { b0 = b.b0 ∙ a.b0; b1 = b.b1 ∙ a.b1; b2 = b.b2 ∙ a.b2; b3 = b.b3 ∙ a.b3; b4 = b.b4 ∙ a.b4; b5 = b.b5 ∙ a.b5 }

@@ -1,16 +1,16 @@
 -- A clean reel: every round after the first is as the one before.
-use Rattle.std.proofs.Common.{◌≡◌, ℕ, zero, suc, ◌+◌, ◌-◌, ◌*◌, ◌/◌, ◌%◌, ◌^◌, ◌<◌, ◌≤◌, Bool, true, false, cond, not, ◌&&◌, ◌||◌, eqb, ltb, leb, ◌⊎◌, List, [], ◌∷◌, ◌++◌, map, length, get_or, Some, None, Option, sym, refl, ap, ◌∙◌, subst, inl, inr, add-zero, add-suc, mod-eq_of_lt, zero-add, arith}
-use Rattle.std.proofs.lemmas.Bool.{cases_Bool, cond-true, cond-false, and_parts, and_from, and_left, and_right, or_parts, or_cases, or_right, or_left, both_ways, eqb-true, eq-eqb, eqb-false, ne_eqb, not-false, not-true, not_from_true, not_from_false, cases_lt}
+use Rattle.std.proofs.Common.{◌≡◌, ℕ, zero, suc, ◌+◌, ◌-◌, ◌%◌, ◌<◌, ◌≤◌, Bool, true, false, cond, not, ◌&&◌, ◌||◌, eqb, List, [], ◌∷◌, ◌++◌, map, length, get_or, Some, None, Option, sym, refl, ap, ◌∙◌, subst, inl, inr, add-zero, add-suc, arith}
+use Rattle.std.proofs.lemmas.Bool.{cases_Bool, cond-true, cond-false, and_parts, and_from, and_right, or_parts, or_cases, or_right, or_left, both_ways, eqb-true, eq-eqb, eqb-false, ne_eqb, not-false, cases_lt}
 use Rattle.std.proofs.lemmas.List.{append_assoc, map-append, append-nil}
 use Rattle.model.specs.declared.entry.Entry.{Entry}
 use Rattle.model.specs.Packet.{Bytes, pid, continuity_counter, has_payload, is_null}
 use Rattle.model.specs.Form.{form, sound}
 use Rattle.model.specs.Moves.{moves}
-use Rattle.model.specs.Runs.{Packets, Placed, same, precedes, copy, continues, counts, is_observed, counted, tally, before, run, past, observed}
-use Rattle.model.specs.Watches.{Whole, basic, Finding, found, breach}
+use Rattle.model.specs.Runs.{Packets, Placed, same, precedes, copy, continues, is_observed, counted, tally, before, run, past, observed}
+use Rattle.model.specs.Watches.{Whole, basic, Finding, found}
 use Rattle.laws.proofs.Bytes.{Packet}
 use Rattle.laws.proofs.SoundForm.{sound_listed, is_none_lem}
-use Rattle.laws.proofs.Rounds.{same_true, reel_packet, in_reel, run_packet, onward, run_first, run_form, run_next, on_packet, on_sound, on_pid, on_flag, on_null, on_continuity_counter, on_same, on_precedes}
+use Rattle.laws.proofs.Rounds.{in_reel, run_packet, onward, run_first, run_form, run_next, on_pid, on_flag, on_null, on_continuity_counter, on_same, on_precedes}
 use Rattle.laws.proofs.Seam.{has_pred, last_counter, copy_none, copy_tells, continues_tells, counted_none, pred_at}
 use Rattle.model.specs.Tests.{is_none, or_else}
 

@@ -1,19 +1,18 @@
 -- A packet moved on: what is kept, and that two moves are one.
-use Rattle.std.proofs.Common.{◌≡◌, ℕ, zero, suc, ◌+◌, ◌-◌, ◌*◌, ◌/◌, ◌%◌, ◌^◌, ◌<◌, ◌≤◌, min, Bool, true, false, cond, not, ◌&&◌, ◌||◌, eqb, ltb, leb, ◌⊎◌, List, [], ◌∷◌, ◌++◌, length, get_or, take, drop, set, sym, refl, ap, ◌∙◌, subst, inl, inr, arith, lit<, lit≤}
+use Rattle.std.proofs.Common.{◌≡◌, ℕ, ◌+◌, ◌-◌, ◌*◌, ◌/◌, ◌%◌, ◌<◌, true, false, cond, ◌&&◌, ltb, List, ◌++◌, length, take, drop, sym, refl, ap, ◌∙◌, inl, inr, arith, lit<, lit≤}
 use lib.Seq.{take-append-add}
 use Rattle.std.proofs.lemmas.Bool.{both_ways, cases_Bool, cond-true, cond-false, and_parts, le-ltb}
-use Rattle.std.proofs.lemmas.List.{take_at, drop_at, length-take-le, length-append, length-drop, take-append-drop, take-take, get_or-drop}
+use Rattle.std.proofs.lemmas.List.{take_at, drop_at, length-take-le, length-append, length-drop, take-append-drop, get_or-drop}
 use Rattle.std.proofs.lemmas.Slice.{between_is}
 use Rattle.model.specs.declared.entry.Entry.{Entry}
-use Rattle.model.specs.Entries.{kind_of, listed, is_clock, is_pes}
-use Rattle.model.specs.Packet.{Bytes, byte, bit, payload_unit_start, has_payload, has_adaptation_field, pid, adaptation_flags, has_pcr, pcr_extension, pcr, continuity_counter, payload_place, payload, is_null}
+use Rattle.model.specs.Packet.{Bytes, byte, bit, payload_unit_start, has_payload, pid, has_pcr, pcr_extension, pcr, continuity_counter, payload_place, payload}
 use Rattle.model.specs.Form.{form, sound, adaptation_stuffing}
-use Rattle.model.specs.Stamps.{starts_pes, stamped, stamp_tests, stamp_bytes, has_pts, has_dts, stamp}
+use Rattle.model.specs.Stamps.{starts_pes, stamped, stamp_tests, has_pts, has_dts, stamp}
 use Rattle.model.specs.Moves.{W, stamps, move_header, move_stamps, moved, moves, stampable}
-use Rattle.laws.proofs.Small.{Small, small_at, small_append, small_take, small_drop}
+use Rattle.laws.proofs.Small.{small_at, small_append, small_take, small_drop}
 use Rattle.laws.proofs.Bytes.{Packet, Long, view, Like, like_form, like_adaptation_flags, like_place, like_pid, like_start, like_payload}
 use Rattle.laws.proofs.StampBytes.{Shape, shape, stamps_add, stamps_none, stamps_length, stamps_first, stamps_stamped, stamps_small, stamps_pts, stamps_dts}
-use Rattle.laws.proofs.Header.{header_like, header_flag, header_continuity_counter, header_value, header_extension, header_add, header_none, header_length, header_drop, header_front, header_small, header_long, at_front, like_trans, value_front}
+use Rattle.laws.proofs.Header.{header_like, header_flag, header_continuity_counter, header_value, header_extension, header_add, header_none, header_length, header_drop, header_front, header_small, at_front, like_trans, value_front}
 use Rattle.laws.proofs.SoundForm.{all_at, place_low, place_high, clock_place, clock_extension}
 use Rattle.model.specs.Tests.{is_none}
 

@@ -1,19 +1,17 @@
 -- The endless run: each round is the one before it, moved on.
-use Rattle.std.proofs.Common.{◌≡◌, ℕ, zero, suc, ◌+◌, ◌-◌, ◌*◌, ◌/◌, ◌%◌, ◌^◌, ◌<◌, ◌≤◌, Bool, true, false, cond, not, ◌&&◌, ◌||◌, eqb, ltb, leb, ◌⊎◌, List, [], ◌∷◌, ◌++◌, length, get_or, Some, None, Option, sym, refl, ap, ◌∙◌, subst, inl, inr, mod-lt, mod-eq_of_lt, mul_assoc, mul_comm, add-mul, one-mul, zero-add, zero-mul, arith}
+use Rattle.std.proofs.Common.{◌≡◌, ℕ, zero, ◌+◌, ◌*◌, ◌/◌, ◌%◌, ◌<◌, true, false, eqb, List, [], ◌∷◌, length, get_or, sym, refl, ap, ◌∙◌, inl, inr, mod-lt, mod-eq_of_lt, mul_assoc, add-mul, one-mul, arith}
 use native.Mathlib.Nat.{add-div_left, add-mod_left, div-eq_of_lt, mul-mod_left}
-use Rattle.std.proofs.lemmas.Bool.{cases_Bool, cond-true, cond-false, and_parts, or_parts, both_ways, eqb-true, eq-eqb, not-false, not-true}
+use Rattle.std.proofs.lemmas.Bool.{cases_Bool, and_parts, both_ways, eqb-true, eq-eqb}
 use Rattle.model.specs.declared.entry.Entry.{Entry}
-use Rattle.model.specs.Entries.{kind_of, listed}
-use Rattle.model.specs.Packet.{Bytes, byte, pid, continuity_counter, has_payload, is_null, payload_unit_start, has_pcr, pcr, payload}
+use Rattle.model.specs.Packet.{Bytes, pid, continuity_counter, has_payload, is_null, payload_unit_start, has_pcr, pcr, payload}
 use Rattle.model.specs.Stamps.{starts_pes, stamped}
 use Rattle.model.specs.Form.{form, sound}
 use Rattle.model.specs.Moves.{moved, moves, W, stampable}
-use Rattle.model.specs.Runs.{Packets, same, precedes, copy, continues, counts, is_observed, counted, tally, before, run, past}
+use Rattle.model.specs.Runs.{Packets, same, precedes, tally, run}
 use Rattle.model.specs.Watches.{Whole}
-use Rattle.laws.proofs.Small.{Small, small_from}
+use Rattle.laws.proofs.Small.{small_from}
 use Rattle.laws.proofs.Bytes.{Packet}
 use Rattle.laws.proofs.Moved.{moved_start, moved_clock, moved_value, moved_pes, moved_stamped, moved_payload, moved_packet, moved_form, moved_sound, moved_pid, moved_flag, moved_continuity_counter, moved_add, moved_none, moved_injective}
-use Rattle.model.specs.Tests.{is_none}
 
 -- equality of bytes
 pub same_true : (p q : Bytes) → same p q ≡ true → p ≡ q

@@ -1,12 +1,11 @@
 -- Copies and tallies over the seam between two rounds.
-use Rattle.std.proofs.Common.{◌≡◌, ℕ, zero, suc, ◌+◌, ◌-◌, ◌*◌, ◌/◌, ◌%◌, ◌^◌, ◌<◌, ◌≤◌, Bool, true, false, cond, not, ◌&&◌, ◌||◌, eqb, ltb, leb, ◌⊎◌, List, [], ◌∷◌, ◌++◌, length, get_or, Some, None, Option, sym, refl, ap, ◌∙◌, subst, inl, inr, add-zero, add-suc, zero-add, arith}
-use Rattle.std.proofs.lemmas.Bool.{cases_Bool, cond-true, cond-false, and_parts, and_from, and_left, and_right, or_parts, or_cases, or_right, or_left, both_ways, eqb-true, eq-eqb, not-false, not-true, not_from_true, not_from_false, cases_lt}
+use Rattle.std.proofs.Common.{◌≡◌, ℕ, zero, suc, ◌+◌, ◌%◌, ◌<◌, Bool, true, false, cond, not, ◌&&◌, ◌||◌, eqb, List, [], ◌∷◌, sym, refl, ap, ◌∙◌, inl, inr, arith}
+use Rattle.std.proofs.lemmas.Bool.{cases_Bool, cond-true, cond-false, and_parts, or_parts, or_right, or_left, both_ways, eqb-true, cases_lt}
 use Rattle.model.specs.declared.entry.Entry.{Entry}
-use Rattle.model.specs.Packet.{Bytes, pid, continuity_counter, has_payload, is_null}
-use Rattle.model.specs.Form.{form, sound}
-use Rattle.model.specs.Runs.{Packets, same, precedes, copy, continues, counts, is_observed, counted, tally, before, run, past}
+use Rattle.model.specs.Packet.{Bytes, pid, continuity_counter, has_payload}
+use Rattle.model.specs.Form.{sound}
+use Rattle.model.specs.Runs.{same, precedes, copy, continues, counts, counted, before}
 use Rattle.laws.proofs.Rounds.{same_true}
-use Rattle.model.specs.Tests.{is_none}
 
 module _ (es : List Entry) where
   -- whether p has a predecessor, and the counter of the last of PID x

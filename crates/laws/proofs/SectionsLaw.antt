@@ -1,20 +1,20 @@
 -- The round law of the sections watch.
-use Rattle.std.proofs.Common.{◌≡◌, ℕ, zero, suc, ◌+◌, ◌-◌, ◌*◌, ◌%◌, ◌<◌, ◌≤◌, Bool, true, false, cond, not, ◌&&◌, ◌||◌, eqb, ltb, leb, ◌⊎◌, List, [], ◌∷◌, ◌++◌, map, length, take, drop, Some, None, Option, sym, refl, ap, ◌∙◌, inl, inr, arith}
-use Rattle.std.proofs.lemmas.Bool.{cases_Bool, cond-true, cond-false, and_parts, and_from, and_left, or_parts, or_cases, both_ways, eqb-true, eq-eqb, cases_lt}
+use Rattle.std.proofs.Common.{◌≡◌, ℕ, zero, suc, ◌+◌, ◌-◌, ◌%◌, ◌<◌, ◌≤◌, Bool, true, false, cond, ◌&&◌, ◌||◌, eqb, leb, List, [], ◌∷◌, ◌++◌, map, length, take, drop, Some, None, Option, sym, refl, ap, ◌∙◌, inl, inr, arith}
+use Rattle.std.proofs.lemmas.Bool.{cases_Bool, cond-true, cond-false, and_parts, or_parts, or_cases, both_ways, eqb-true}
 use Rattle.model.specs.declared.entry.Entry.{Entry}
 use Rattle.model.specs.declared.entry.Kind.{Kind}
 use Rattle.model.specs.declared.entry.Kind.TheVariants.{Pes, Sections, Clock}
 use Rattle.model.specs.Entries.{kind_of, is_sections, is_pes}
 use Rattle.model.specs.Packet.{Bytes, byte, pid, payload_unit_start, has_payload, payload}
 use Rattle.model.specs.Form.{sound}
-use Rattle.model.specs.Stamps.{starts_pes, stamped}
+use Rattle.model.specs.Stamps.{stamped}
 use Rattle.model.specs.Moves.{stampable}
 use Rattle.model.specs.Runs.{Packets, Placed, run, past, before, observed, is_observed}
-use Rattle.model.specs.Watches.{Whole, Finding, found, breach, basic, RoundLaw}
-use Rattle.model.specs.Sections.{Reading, section, ended, filling, wrong, Next, more, read_all, Phase, unstarted, between, inside, offended, settled, leading, started, with_start, without_start, advance, carries, phase_from, offence, sections_finding}
+use Rattle.model.specs.Watches.{Whole, Finding, found, RoundLaw}
+use Rattle.model.specs.Sections.{section, more, read_all, Phase, unstarted, between, inside, offended, settled, leading, started, with_start, without_start, advance, carries, phase_from, offence, sections_finding}
 use Rattle.laws.proofs.Bytes.{Packet}
-use Rattle.laws.proofs.Rounds.{run_packet, onward, on_sound, on_pid, on_flag, on_start, on_payload}
-use Rattle.laws.proofs.Loop.{Fine, shift, here, shift_here, law_from, observed_next, observed_next?, next}
+use Rattle.laws.proofs.Rounds.{run_packet, on_sound, on_pid, on_flag, on_start, on_payload}
+use Rattle.laws.proofs.Loop.{Fine, shift, law_from, observed_next}
 use Rattle.laws.proofs.StampsLaw.{fine_from, found_from}
 use Rattle.laws.proofs.ClockLaw.{Packets!, observed_packets}
 

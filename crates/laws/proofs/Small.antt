@@ -1,5 +1,5 @@
 -- Bytes below 256.
-use Rattle.std.proofs.Common.{◌≡◌, ℕ, zero, suc, ◌+◌, ◌-◌, ◌*◌, ◌/◌, ◌%◌, ◌<◌, ◌≤◌, List, [], ◌∷◌, ◌++◌, length, get_or, take, drop, set, sym, refl, ap, ◌∙◌, subst, suc-le-suc, zero-le, arith, lit<}
+use Rattle.std.proofs.Common.{ℕ, zero, suc, ◌<◌, [], ◌∷◌, ◌++◌, length, take, drop, set, suc-le-suc, zero-le, lit<}
 use Rattle.model.specs.Packet.{Bytes, byte}
 
 abbrev pub Small : Bytes → Type 0

@@ -1,11 +1,11 @@
 -- What a sound packet tells.
-use Rattle.std.proofs.Common.{◌≡◌, ℕ, zero, suc, ◌+◌, ◌-◌, ◌*◌, ◌/◌, ◌%◌, ◌^◌, ◌<◌, ◌≤◌, Bool, true, false, cond, not, ◌&&◌, ◌||◌, eqb, ltb, leb, ◌⊎◌, List, [], ◌∷◌, ◌++◌, length, get_or, take, drop, set, Some, None, Option, sym, refl, ap, ◌∙◌, subst, inl, inr, arith, lit<}
-use Rattle.std.proofs.lemmas.Bool.{cases_Bool, cond-true, cond-false, or_parts, and_parts, and_cases, both_ways, not-false, leb-true, ltb-false, ltb-true, eqb-true, true≢false}
+use Rattle.std.proofs.Common.{◌≡◌, ℕ, zero, suc, ◌<◌, ◌≤◌, Bool, true, false, cond, not, ◌&&◌, ◌||◌, eqb, ltb, List, [], ◌∷◌, get_or, Some, None, Option, sym, refl, inl, inr, arith}
+use Rattle.std.proofs.lemmas.Bool.{cases_Bool, or_parts, and_parts, both_ways, not-false, ltb-false, eqb-true}
 use Rattle.model.specs.declared.entry.Entry.{Entry}
-use Rattle.model.specs.Entries.{kind_of, listed, is_clock}
-use Rattle.model.specs.Packet.{Bytes, byte, bit, has_sync_byte, transport_error, payload_unit_start, has_payload, has_adaptation_field, pid, scrambling_control, is_null, adaptation_field_length, adaptation_flags, has_pcr, pcr_extension, payload_place}
+use Rattle.model.specs.Entries.{kind_of, listed}
+use Rattle.model.specs.Packet.{Bytes, has_sync_byte, has_payload, has_adaptation_field, pid, is_null, adaptation_field_length, has_pcr, pcr_extension, payload_place}
 use Rattle.model.specs.Form.{form, sound, bad_header, adaptation_field_faults, bad_adaptation_field, bad_clock}
-use Rattle.model.specs.Tests.{all_of, any_of, first_broken, is_none}
+use Rattle.model.specs.Tests.{all_of, any_of, is_none}
 
 pub is_none_lem : (o : Option ℕ) → is_none o ≡ true → o ≡ None
 is_none_lem None h = refl

@@ -1,8 +1,8 @@
-use Rattle.std.proofs.Common.{◌≡◌, ℕ, zero, suc, ◌+◌, ◌-◌, ◌*◌, ◌/◌, ◌%◌, ◌^◌, ◌<◌, ◌≤◌, Bool, true, false, cond, not, ◌&&◌, ◌||◌, eqb, ltb, leb, ◌⊎◌, List, [], ◌∷◌, ◌++◌, length, get_or, take, drop, set, sym, refl, ap, ◌∙◌, subst, inl, inr, arith, lit<}
-use Rattle.std.proofs.lemmas.Bool.{both_ways, cases_Bool, cond-true, cond-false, and_parts, leb-true, leb-false, eqb-true, eqb-false, le-leb}
-use Rattle.model.specs.Packet.{Bytes, byte, bit}
-use Rattle.model.specs.Stamps.{has_pts, has_dts, pts_dts_flags, stamp_bytes, stamp, stamped, prefix, marked}
-use Rattle.model.specs.Moves.{set_stamp, stamps, move_stamps}
+use Rattle.std.proofs.Common.{◌≡◌, ℕ, ◌+◌, ◌*◌, ◌/◌, ◌%◌, ◌^◌, ◌<◌, ◌≤◌, true, false, eqb, leb, [], ◌∷◌, length, take, sym, ap, ◌∙◌, inl, inr, arith, lit<}
+use Rattle.std.proofs.lemmas.Bool.{both_ways, cases_Bool, leb-true, eqb-true, le-leb}
+use Rattle.model.specs.Packet.{Bytes, byte}
+use Rattle.model.specs.Stamps.{has_pts, has_dts, pts_dts_flags, stamp_bytes, stamp, stamped}
+use Rattle.model.specs.Moves.{stamps, move_stamps}
 use Rattle.laws.proofs.Small.{Small, small_at, small_drop}
 
 none14 : {n : ℕ} → 14 ≤ n → n < 14 → ⊥

@@ -1,8 +1,8 @@
 -- The round law of the stamps watch.
-use Rattle.std.proofs.Common.{◌≡◌, ℕ, zero, suc, ◌+◌, ◌*◌, ◌%◌, ◌<◌, ◌≤◌, Bool, true, false, cond, not, ◌&&◌, ◌||◌, List, [], ◌∷◌, ◌++◌, length, Some, None, Option, sym, refl, ap, ◌∙◌, subst, arith}
+use Rattle.std.proofs.Common.{◌≡◌, ℕ, ◌+◌, ◌*◌, ◌%◌, ◌<◌, List, [], length, None, arith}
 use Rattle.model.specs.declared.entry.Entry.{Entry}
-use Rattle.model.specs.Runs.{Packets, Placed, run, past}
-use Rattle.model.specs.Watches.{Whole, Finding, found, breach, basic, RoundLaw, stamps_finding}
+use Rattle.model.specs.Runs.{Packets, run}
+use Rattle.model.specs.Watches.{Whole, Finding, found, breach, RoundLaw, stamps_finding}
 use Rattle.laws.proofs.Rounds.{run_packet, on_sound, on_pes, on_stamped}
 use Rattle.laws.proofs.Loop.{Fine, shift, law_from, or_else_none}
 

@@ -1,11 +1,11 @@
 -- The theorems that functions of src/theorems.rt promise.
-use Rattle.std.specs.Prelude.{◌≡◌, ℕ, ◌+◌, ◌*◌, ◌/◌, ◌%◌, ◌<◌, ◌≤◌, Bool, true, false, List, [], ◌∷◌, ◌++◌, map, length, get_or, Some, None, Option}
+use Rattle.std.specs.Prelude.{◌≡◌, ℕ, ◌+◌, ◌*◌, ◌/◌, ◌%◌, ◌<◌, true, List, length, None}
 use Rattle.model.specs.declared.entry.Entry.{Entry}
 use Rattle.model.specs.Packet.{Bytes, byte, pid, payload_unit_start, has_payload, continuity_counter, has_pcr, pcr, payload_place, payload}
 use Rattle.model.specs.Form.{form}
 use Rattle.model.specs.Stamps.{has_pts, has_dts, stamp}
 use Rattle.model.specs.Moves.{moved, moves, stampable, W, stamps}
-use Rattle.model.specs.Runs.{Packets, Placed, same, tally, run, past, observed}
+use Rattle.model.specs.Runs.{Packets, same, run, past}
 use Rattle.model.specs.Watches.{Whole, Finding, RoundLaw, basic, bank, stamps_finding}
 use Rattle.model.specs.Clock.{clock_finding}
 use Rattle.model.specs.Sections.{sections_finding}

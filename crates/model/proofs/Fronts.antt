@@ -1,5 +1,5 @@
 -- A list laid over the front of another.
-use Rattle.std.proofs.Common.{◌≡◌, ℕ, ◌+◌, ◌-◌, ◌≤◌, List, [], ◌∷◌, ◌++◌, length, take, drop, sym, refl, ap, ◌∙◌, arith, length-append, length-drop}
+use Rattle.std.proofs.Common.{◌≡◌, ℕ, ◌≤◌, List, ◌++◌, length, take, arith, length-append, length-drop}
 use lib.Seq.{take-append_seam}
 use borrow.Rule.Slice.PartMut.{post_of}
 

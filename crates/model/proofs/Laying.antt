@@ -1,6 +1,6 @@
 -- Bytes written into a buffer, one part after the other.
-use Rattle.std.proofs.Common.{◌≡◌, ℕ, suc, ◌+◌, ◌-◌, ◌<◌, ◌≤◌, List, [], ◌∷◌, ◌++◌, length, get_or, take, drop, set, sym, refl, ap, ◌∙◌, append_assoc, add_assoc, zero-add, add-one, arith, length-append, length-drop, take-append-drop, length-take, drop-drop, take_at, drop_at}
-use lib.Seq.{take-append-add, drop-append-add, take-append_seam, set-append_seam, split_at}
+use Rattle.std.proofs.Common.{◌≡◌, ℕ, suc, ◌+◌, ◌<◌, ◌≤◌, List, [], ◌∷◌, ◌++◌, length, get_or, take, drop, set, sym, ap, ◌∙◌, append_assoc, add_assoc, zero-add, add-one, arith, length-append, length-drop, take-append-drop, length-take, drop-drop, take_at, drop_at}
+use lib.Seq.{take-append_seam, set-append_seam, split_at}
 use borrow.Rule.Slice.PartMut.{put_mid}
 use Rattle.model.specs.Buffers.{laid}
 

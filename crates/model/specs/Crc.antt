@@ -1,5 +1,5 @@
 -- CRC_32 of a section.
-use Rattle.std.specs.Prelude.{ℕ, ◌*◌, ◌%◌, ◌^◌, Bool, true, false, cond, List, [], ◌∷◌, bit_xor, nat_le}
+use Rattle.std.specs.Prelude.{ℕ, ◌*◌, ◌%◌, ◌^◌, cond, [], ◌∷◌, bit_xor, nat_le}
 use Rattle.model.specs.Packet.{Bytes}
 
 -- one bit of the division by the polynomial 0x04C11DB7

@@ -1,5 +1,5 @@
 -- The form of a packet, rules 20 to 24.
-use Rattle.std.specs.Prelude.{ℕ, ◌+◌, ◌-◌, ◌*◌, ◌/◌, ◌%◌, ◌^◌, Bool, true, false, cond, not, ◌&&◌, ◌||◌, List, [], ◌∷◌, length, take, drop, Some, None, Option, ◌==◌, nat_le, nat_lt}
+use Rattle.std.specs.Prelude.{ℕ, ◌-◌, Bool, cond, not, ◌&&◌, ◌||◌, List, [], ◌∷◌, take, drop, Option, ◌==◌, nat_le, nat_lt}
 use Rattle.model.specs.declared.entry.Entry.{Entry}
 use Rattle.model.specs.Entries.{kind_of, listed, is_clock}
 use Rattle.model.specs.Packet.{Bytes, has_sync_byte, transport_error, payload_unit_start, has_payload, has_adaptation_field, pid, scrambling_control, is_null, adaptation_field_length, discontinuity, has_pcr, has_opcr, has_splicing_point, has_private_data, has_extension, pcr_extension, payload_place}

@@ -1,5 +1,5 @@
 -- Moving a packet on: its counter, its clock value and its stamps.
-use Rattle.std.specs.Prelude.{ℕ, ◌+◌, ◌-◌, ◌*◌, ◌/◌, ◌%◌, ◌^◌, Bool, true, false, cond, not, ◌&&◌, ◌||◌, List, [], ◌∷◌, ◌++◌, length, take, set, slice_set}
+use Rattle.std.specs.Prelude.{ℕ, ◌+◌, ◌*◌, ◌/◌, ◌%◌, ◌^◌, Bool, cond, ◌&&◌, List, ◌++◌, take, set, slice_set}
 use Rattle.model.specs.declared.entry.Entry.{Entry}
 use Rattle.model.specs.Entries.{kind_of, listed}
 use Rattle.model.specs.Packet.{Bytes, byte, pid, continuity_counter, has_pcr, pcr, payload, payload_place}

@@ -1,5 +1,5 @@
 -- The fields of a transport packet of 188 bytes, as ISO/IEC 13818-1 names them. The most significant bit comes first.
-use Rattle.std.specs.Prelude.{ℕ, ◌+◌, ◌-◌, ◌*◌, ◌/◌, ◌%◌, ◌^◌, Bool, true, false, cond, not, ◌&&◌, ◌||◌, List, [], ◌∷◌, length, drop, ◌==◌, nat_le, slice_index}
+use Rattle.std.specs.Prelude.{ℕ, ◌+◌, ◌*◌, ◌/◌, ◌%◌, ◌^◌, Bool, cond, ◌&&◌, List, drop, ◌==◌, nat_le, slice_index}
 
 abbrev pub Bytes : Type 0
 Bytes = List ℕ

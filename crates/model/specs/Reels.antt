@@ -1,5 +1,5 @@
 -- What a reel's calls answer, by its meaning, a list of packets.
-use Rattle.std.specs.Prelude.{ℕ, zero, suc, ◌+◌, ◌*◌, ◌/◌, ◌%◌, Bool, true, false, cond, not, ◌&&◌, ◌||◌, List, [], ◌∷◌, length, take, drop, replicate, Result, ◌==◌, nat_le, nat_lt, slice_index_or}
+use Rattle.std.specs.Prelude.{ℕ, zero, suc, ◌+◌, ◌/◌, ◌%◌, Bool, cond, not, ◌&&◌, ◌||◌, [], ◌∷◌, length, take, drop, replicate, Result, ◌==◌, nat_le, nat_lt, slice_index_or}
 use Rattle.model.specs.File.{bad_number}
 use Rattle.model.specs.Packet.{Bytes}
 use Rattle.model.specs.Runs.{Packets}

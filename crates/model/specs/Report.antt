@@ -1,5 +1,5 @@
 -- The report on a file: lines of text, each ended by byte 10.
-use Rattle.std.specs.Prelude.{ℕ, ◌*◌, Bool, true, false, cond, List, [], ◌∷◌, ◌++◌, length, take, Some, None, Ok, Err, codes, decimal, Option, Result, nat_lt}
+use Rattle.std.specs.Prelude.{ℕ, ◌*◌, cond, ◌++◌, length, take, Some, None, Ok, Err, codes, decimal, Option, Result, nat_lt}
 use Rattle.model.specs.Breaches.{Breach, verdict}
 use Rattle.model.specs.Buffers.{laid}
 use Rattle.model.specs.File.{FileText, opened}

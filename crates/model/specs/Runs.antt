@@ -1,5 +1,5 @@
 -- The endless run of a reel: its rounds, one after another, each moved on.
-use Rattle.std.specs.Prelude.{◌≡◌, ℕ, zero, suc, ◌+◌, ◌-◌, ◌*◌, ◌/◌, ◌%◌, ◌^◌, ◌<◌, ◌≤◌, Bool, true, false, cond, not, ◌&&◌, ◌||◌, List, [], ◌∷◌, ◌++◌, length, get_or, ◌==◌, slice_index_or}
+use Rattle.std.specs.Prelude.{ℕ, zero, suc, ◌+◌, ◌*◌, ◌/◌, ◌%◌, Bool, true, false, cond, not, ◌&&◌, ◌||◌, List, [], ◌∷◌, ◌++◌, length, get_or, ◌==◌, slice_index_or}
 use Rattle.model.specs.declared.entry.Entry.{Entry}
 use Rattle.model.specs.Packet.{Bytes, pid, continuity_counter, has_payload, is_null}
 use Rattle.model.specs.Form.{sound}

@@ -1,5 +1,5 @@
 -- What a sheet says, and which sheets there are.
-use Rattle.std.specs.Prelude.{ℕ, ◌-◌, ◌%◌, Bool, true, false, not, ◌&&◌, ◌||◌, List, [], ◌∷◌, length, take, Some, None, Option, Result, ◌==◌, nat_le}
+use Rattle.std.specs.Prelude.{ℕ, ◌%◌, Bool, not, ◌&&◌, ◌||◌, List, [], ◌∷◌, length, take, Some, None, Option, Result, ◌==◌, nat_le}
 use Rattle.model.specs.declared.entry.Entry.{Entry}
 use Rattle.model.specs.declared.entry.Kind.{Kind}
 use Rattle.model.specs.declared.sheet.Sheet.{Sheet}

@@ -1,8 +1,8 @@
 -- Time stamps at the start of a PES packet, rule 30.
-use Rattle.std.specs.Prelude.{ℕ, ◌+◌, ◌-◌, ◌*◌, ◌/◌, ◌%◌, ◌^◌, Bool, true, false, cond, not, ◌&&◌, ◌||◌, List, [], ◌∷◌, length, ◌==◌, nat_le}
+use Rattle.std.specs.Prelude.{ℕ, ◌+◌, ◌*◌, ◌/◌, ◌%◌, ◌^◌, Bool, cond, not, ◌&&◌, ◌||◌, List, [], ◌∷◌, length, ◌==◌, nat_le}
 use Rattle.model.specs.declared.entry.Entry.{Entry}
 use Rattle.model.specs.Entries.{kind_of, is_pes}
-use Rattle.model.specs.Packet.{Bytes, byte, bit, payload_unit_start, has_payload, pid, payload}
+use Rattle.model.specs.Packet.{Bytes, byte, bit, payload_unit_start, has_payload, pid}
 use Rattle.model.specs.Tests.{all_of}
 
 -- the stream ids that carry stamps

@@ -1,5 +1,5 @@
 -- One look-up for a byte: a step of the division is linear over bit_xor, so the highest byte and the others go apart.
-use Rattle.std.proofs.Common.{◌≡◌, ℕ, zero, suc, ◌+◌, ◌*◌, ◌/◌, ◌%◌, ◌^◌, ◌<◌, ◌≤◌, Bool, true, false, cond, eqb, leb, List, [], ◌∷◌, length, get_or, sym, refl, ap, ◌∙◌, ap₂, inl, inr, add-zero, mul_assoc, div-add-mod', arith, lit<}
+use Rattle.std.proofs.Common.{◌≡◌, ℕ, zero, suc, ◌+◌, ◌*◌, ◌/◌, ◌%◌, ◌^◌, ◌<◌, Bool, eqb, leb, List, [], ◌∷◌, get_or, sym, refl, ap, ◌∙◌, ap₂, inl, inr, add-zero, mul_assoc, div-add-mod', arith, lit<}
 use lib.Bits.{bit_xor, xor_zero_r, xor_comm, xor_assoc, xor_lt, xor_block, xor_shifted, xor_shr, xor_mod}
 use Rattle.std.proofs.lemmas.Bool.{cases_Bool, cond-true, cond-false, leb-true, leb-false, lt-leb, eqb-true}
 use Rattle.model.specs.Crc.{crc_bit, crc_byte}

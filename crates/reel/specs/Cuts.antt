@@ -1,5 +1,5 @@
 -- Bytes as packets.
-use Rattle.std.specs.Prelude.{◌≡◌, ℕ, zero, suc, ◌+◌, ◌-◌, ◌*◌, ◌/◌, ◌%◌, ◌<◌, ◌≤◌, Bool, true, false, not, ◌&&◌, ◌||◌, List, [], ◌∷◌, length, get_or, take, drop, ◌==◌, nat_le, slice_index, slice_index_or, refl}
+use Rattle.std.specs.Prelude.{◌≡◌, ℕ, zero, suc, ◌+◌, ◌*◌, ◌/◌, ◌%◌, ◌<◌, ◌≤◌, false, not, ◌||◌, [], ◌∷◌, length, get_or, take, drop, ◌==◌, nat_le, slice_index, slice_index_or, refl}
 use Rattle.std.proofs.Common.{sym, ap, subst, ◌∙◌, inl, inr, lit<, lit≤, length-take, length-drop, drop-drop, get_or-take, get_or-drop, arith}
 use Rattle.std.proofs.lemmas.Bool.{or_parts, and_parts, not-false, leb-true, eqb-true, cases_Bool, cond-true, cond-false}
 use Rattle.model.specs.File.{bad_number}

@@ -1,5 +1,5 @@
 -- What the constructor of packets in memory answers: the packets, or the refusal's number with the bytes handed back.
-use Rattle.std.specs.Prelude.{ℕ, Bool, true, false, cond, Ok, Err, Result}
+use Rattle.std.specs.Prelude.{ℕ, cond, Ok, Err, Result}
 use Rattle.model.specs.declared.refusal.Refusal.{Refusal}
 use Rattle.model.specs.Packet.{Bytes}
 use Rattle.model.specs.Refusals.{refusal_number}

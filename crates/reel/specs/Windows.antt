@@ -1,5 +1,5 @@
 -- What the constructor of a window answers: the window, or the refusal's number with the reel handed back.
-use Rattle.std.specs.Prelude.{ℕ, ◌+◌, Bool, true, false, cond, ◌&&◌, Ok, Err, Result, nat_le}
+use Rattle.std.specs.Prelude.{ℕ, ◌+◌, cond, ◌&&◌, Ok, Err, Result, nat_le}
 use Rattle.model.specs.declared.refusal.Refusal.{Refusal}
 use Rattle.model.specs.Refusals.{refusal_number}
 use Rattle.reel.specs.declared.window.Window.{Window}

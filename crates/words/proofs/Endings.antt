@@ -1,5 +1,5 @@
 -- Texts that end with a kind.
-use Rattle.std.proofs.Common.{◌≡◌, ◌+◌, List, [], ◌∷◌, ◌++◌, codes, sym, ◌∙◌, append_assoc}
+use Rattle.std.proofs.Common.{◌≡◌, ◌+◌, [], ◌∷◌, ◌++◌, codes, sym, ◌∙◌, append_assoc}
 use Rattle.std.proofs.lemmas.List.{same_from_push}
 use Rattle.model.specs.declared.entry.Kind.{Kind}
 use Rattle.model.specs.declared.entry.Kind.TheVariants.{Pes, Sections, Clock}

@@ -1,5 +1,5 @@
 -- What the definitions say of the generated reels.
-use Rattle.std.specs.Prelude.{◌≡◌, ℕ, ◌-◌, ◌*◌, List, map, length, Option}
+use Rattle.std.specs.Prelude.{◌≡◌, ◌-◌, ◌*◌, map, length, Option}
 use Rattle.model.specs.Breaches.{Breach, verdict}
 use Rattle.model.specs.House.{house}
 use Rattle.model.specs.Packet.{Bytes}

@@ -10,7 +10,7 @@ use Rattle.model.specs.House.{house}
 use Rattle.model.specs.Moves.{moved}
 use Rattle.model.specs.Packet.{Bytes, pcr, payload, continuity_counter}
 use Rattle.model.specs.Reels.{filler_packet}
-use Rattle.model.specs.Runs.{Packets, Placed, run, tally}
+use Rattle.model.specs.Runs.{Packets, run, tally}
 use Rattle.model.specs.Stamps.{stamp}
 
 -- a sheet of one PID, 256

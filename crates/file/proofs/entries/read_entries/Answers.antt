@@ -1,10 +1,9 @@
-use Rattle.std.proofs.Common.{◌≡◌, ◌+◌, ◌-◌, ◌*◌, ◌/◌, ◌<◌, ◌≤◌, Bool, true, false, ◌&&◌, List, [], ◌∷◌, ◌++◌, length, take, drop, set, Some, None, sym, refl, ap, ◌∙◌, subst, arith, length-set, rules}
+use Rattle.std.proofs.Common.{◌≡◌, ◌+◌, ◌-◌, ◌*◌, ◌/◌, ◌<◌, List, [], ◌∷◌, ◌++◌, length, take, drop, sym, ap, ◌∙◌, arith, length-set}
 use Rattle.std.proofs.lemmas.List.{take_more_set}
 use Rattle.std.proofs.lemmas.Bool.{and_from, and_right, false≢true}
 use Rattle.model.specs.declared.entry.Entry.{Entry}
-use Rattle.model.specs.Packet.{Bytes}
-use Rattle.model.specs.File.{entry_part, entry_of, is_entry, entry_bytes, entries_in, are_entries}
-use Rattle.file.specs.Entries.{entry_in, Rewritten}
+use Rattle.model.specs.File.{entry_part, entry_bytes, entries_in, are_entries}
+use Rattle.file.specs.Entries.{entry_in}
 use Rattle.file.proofs.EntryBytes.{entry_read, entry_none, none_among, are_more, entries_more, bytes_more}
 use Rattle.file.proofs.entries.read_entries.Goals as goal
 

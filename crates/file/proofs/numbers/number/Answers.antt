@@ -1,4 +1,4 @@
-use Rattle.std.proofs.Common.{◌≡◌, ◌+◌, ◌*◌, ◌^◌, ◌<◌, ◌≤◌, List, length, get_or, take, sym, ap, ◌∙◌, arith, rules}
+use Rattle.std.proofs.Common.{◌≡◌, ◌+◌, ◌*◌, ◌^◌, ◌<◌, length, get_or, take, sym, ap, ◌∙◌, arith}
 use lib.Seq.{take-length}
 use Rattle.std.specs.Int.Digits.{number_from_digits as value}
 use Rattle.std.proofs.lemmas.Int.Digits.{number_more}

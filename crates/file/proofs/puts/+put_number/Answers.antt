@@ -1,4 +1,4 @@
-use Rattle.std.proofs.Common.{◌≡◌, ℕ, suc, ◌+◌, ◌-◌, ◌/◌, ◌%◌, ◌<◌, List, [], ◌∷◌, ◌++◌, length, set, sym, refl, ap, ◌∙◌, arith, rules}
+use Rattle.std.proofs.Common.{◌≡◌, ℕ, suc, ◌+◌, ◌-◌, ◌/◌, ◌%◌, List, set, sym, ap, ◌∙◌, rules}
 use Rattle.model.specs.Buffers.{laid}
 use Rattle.model.specs.File.{written}
 use Rattle.model.proofs.Laying.{laid_none, laid_push}

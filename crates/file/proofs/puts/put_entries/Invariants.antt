@@ -1,4 +1,4 @@
-use Rattle.std.proofs.Common.{◌≡◌, ◌*◌, length, take}
+use Rattle.std.proofs.Common.{◌≡◌, take}
 use Rattle.model.specs.Buffers.{laid}
 use Rattle.model.specs.File.{entries_bytes}
 use Rattle.file.proofs.puts.put_entries.Given as goal

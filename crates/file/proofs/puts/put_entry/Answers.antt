@@ -1,7 +1,6 @@
-use Rattle.std.proofs.Common.{◌≡◌, ℕ, ◌+◌, ◌<◌, List, [], ◌∷◌, ◌++◌, length, set, sym, refl, ap, ◌∙◌, arith, rules}
+use Rattle.std.proofs.Common.{ℕ, ◌+◌, ◌<◌, List, [], ◌∷◌, ◌++◌, length, set, refl, ap, ◌∙◌, arith}
 use Rattle.model.specs.Buffers.{laid}
-use Rattle.model.specs.Entries.{kind_number}
-use Rattle.model.specs.File.{written, entry_bytes}
+use Rattle.model.specs.File.{written}
 use Rattle.model.proofs.Laying.{laid_push}
 use Rattle.file.proofs.puts.put_entry.Goals as goal
 

@@ -1,4 +1,4 @@
-use Rattle.std.proofs.Common.{◌≡◌, ℕ, ◌+◌, ◌-◌, ◌≤◌, List, [], ◌∷◌, ◌++◌, length, sym, refl, ap, ◌∙◌, arith, rules}
+use Rattle.std.proofs.Common.{◌+◌, ◌-◌, ◌≤◌, ◌++◌, length, refl, ap, ◌∙◌, arith}
 use Rattle.model.specs.Buffers.{laid}
 use Rattle.model.specs.Packet.{Bytes}
 use Rattle.model.specs.File.{written, mark}

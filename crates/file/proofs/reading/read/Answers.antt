@@ -1,11 +1,11 @@
-use Rattle.std.proofs.Common.{◌≡◌, ℕ, ◌+◌, ◌-◌, ◌*◌, ◌/◌, ◌≤◌, Bool, true, false, length, take, drop, Ok, Err, Result, sym, refl, ap, ◌∙◌, arith, rules}
+use Rattle.std.proofs.Common.{◌≡◌, ℕ, ◌-◌, ◌*◌, ◌/◌, false, length, take, drop, Ok, Result, sym, ap, ◌∙◌}
 use Rattle.std.proofs.lemmas.Result.{err_from_is_err_and}
 use Rattle.model.specs.Packet.{Bytes}
 use Rattle.model.specs.File.{bad_distance, bad_count, last, opened, no_trailer}
 use Rattle.model.specs.Sheets.{SheetText, text_of}
 use Rattle.file.specs.declared.trailer.Trailer.{Trailer}
 use Rattle.file.specs.Reading.{sheet_in}
-use Rattle.file.specs.Trailers.{trailer_of, trailer_in}
+use Rattle.file.specs.Trailers.{trailer_of}
 use Rattle.file.proofs.Opening.{trailer_read, opened_distance, opened_sheet, counted, fitting, sheet_slice, slice_front, tail_again, unless_ok}
 use Rattle.file.proofs.reading.read.Goals as goal
 

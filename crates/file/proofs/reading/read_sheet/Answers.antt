@@ -1,5 +1,4 @@
-use Rattle.std.proofs.Common.{◌≡◌, ◌-◌, ◌/◌, ◌≤◌, Bool, true, List, length, take, drop, sym, refl, ap, ◌∙◌, arith, rules}
-use Rattle.model.specs.declared.entry.Entry.{Entry}
+use Rattle.std.proofs.Common.{◌≡◌, ◌-◌, ◌/◌, true, length, take, sym, ap, ◌∙◌, arith, rules}
 use Rattle.model.specs.File.{are_entries, entries_in, entries_bytes}
 use Rattle.file.proofs.Opening.{made_in, same_entries}
 use Rattle.file.proofs.reading.read_sheet.Goals as goal

@@ -1,4 +1,4 @@
-use Rattle.std.proofs.Common.{◌≡◌, ◌≤◌, length, sym, refl, ap, ◌∙◌, arith, rules}
+use Rattle.std.proofs.Common.{arith}
 use Rattle.file.proofs.Parts.{part_written, trailer_parts}
 use Rattle.file.proofs.trailer.fields.Goals as goal
 

@@ -1,12 +1,10 @@
-use Rattle.std.proofs.Common.{◌≡◌, ◌-◌, ◌<◌, ◌≤◌, Bool, true, false, cond, not, ◌||◌, ltb, length, drop, Some, None, sym, refl, ap, ◌∙◌, arith, rules}
+use Rattle.std.proofs.Common.{◌≡◌, ◌≤◌, false, cond, not, ◌||◌, length, drop, Some, None, sym, ap, ◌∙◌, arith, rules}
 use Rattle.std.specs.Str.{bytes_eq}
 use Rattle.std.proofs.lemmas.Slice.Eq.{slice_eq-Decides, bytes_eq-Decides}
 use Rattle.std.proofs.lemmas.Bool.{le-ltb}
-use Rattle.model.specs.Packet.{Bytes}
 use Rattle.model.specs.File.{mark, last, no_trailer}
 use Rattle.file.specs.Trailers.{trailer_of}
-use Rattle.file.specs.declared.trailer.Trailer.{Trailer}
-use Rattle.file.proofs.Parts.{last_slice, last_length, last_last}
+use Rattle.file.proofs.Parts.{last_slice, last_last}
 use Rattle.file.proofs.trailer.read_trailer.Goals as goal
 use Rattle.std.proofs.lemmas.Bool.Decides.{Decides-eqb}
 

@@ -1,9 +1,9 @@
-use Rattle.std.proofs.Common.{◌≡◌, ℕ, ◌+◌, ◌-◌, ◌*◌, ◌≤◌, Bool, true, false, ltb, leb, List, [], ◌∷◌, ◌++◌, length, take, Ok, Err, sym, refl, ap, ◌∙◌, arith, length-append, rules}
+use Rattle.std.proofs.Common.{◌≡◌, ◌+◌, ◌-◌, ◌*◌, false, ltb, leb, List, [], ◌∷◌, ◌++◌, length, take, sym, ap, ◌∙◌, arith, length-append}
 use Rattle.std.proofs.lemmas.Bool.{le-ltb, and_parts, not-false, leb-true}
 use Rattle.model.specs.declared.entry.Entry.{Entry}
 use Rattle.model.specs.Buffers.{laid}
 use Rattle.model.specs.Packet.{Bytes}
-use Rattle.model.specs.Sheets.{entries_of, rate_of, round_of, text_of}
+use Rattle.model.specs.Sheets.{entries_of, rate_of, text_of}
 use Rattle.model.specs.Tests.{first_broken, unless}
 use Rattle.model.specs.File.{FileText, entries_bytes, trailer_bytes, tail_length, tail, bad_number, opened}
 use Rattle.model.proofs.Laying.{laid_laid, laid_take}

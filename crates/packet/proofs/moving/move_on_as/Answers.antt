@@ -1,4 +1,4 @@
-use Rattle.std.proofs.Common.{◌≡◌, sym}
+use Rattle.std.proofs.Common.{sym}
 use Rattle.model.specs.Packet.{Bytes}
 use Rattle.laws.proofs.Moved.{still}
 use Rattle.packet.proofs.Moves.{unlisted_stays, broken_stays}

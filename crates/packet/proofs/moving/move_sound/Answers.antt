@@ -1,4 +1,4 @@
-use Rattle.std.proofs.Common.{◌≡◌, sym, ◌∙◌}
+use Rattle.std.proofs.Common.{sym}
 use Rattle.packet.proofs.Moves.{without_stamps, with_stamps_after}
 use Rattle.packet.proofs.moving.move_sound.Goals as goal
 

@@ -1,9 +1,9 @@
-use Rattle.std.proofs.Common.{◌≡◌, ℕ, ◌+◌, ◌%◌, ◌≤◌, true, false, length, sym, ap, ◌∙◌, inl, inr, arith}
+use Rattle.std.proofs.Common.{◌≡◌, ℕ, ◌+◌, ◌%◌, ◌≤◌, length, sym, ap, ◌∙◌, inl, inr, arith}
 use borrow.Rule.Slice.PartMut.{put_mid, mid_of}
 use Rattle.std.proofs.lemmas.Bool.{cases_Bool, le-leb, leb-true, eq-eqb, ne_eqb}
 use Rattle.model.specs.Packet.{Bytes}
-use Rattle.model.specs.Stamps.{stamp, pts_dts_flags, has_pts, has_dts}
-use Rattle.model.specs.Moves.{set_stamp, stamps, move_stamps}
+use Rattle.model.specs.Stamps.{stamp, pts_dts_flags, has_pts}
+use Rattle.model.specs.Moves.{set_stamp, stamps}
 use Rattle.laws.proofs.StampBytes.{view_fourteen, view_nineteen}
 use Rattle.packet.proofs.Fields.{onward, pts_part, dts_part, moves_both, moves_pts, moves_none, pts_long, dts_long}
 use Rattle.packet.proofs.moving.move_stamps.Goals as goal

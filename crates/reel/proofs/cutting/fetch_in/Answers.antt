@@ -1,5 +1,4 @@
 use Rattle.std.proofs.Common.{◌≡◌, ◌+◌, ◌-◌, ◌*◌, ◌/◌, ◌<◌, ◌≤◌, length, take, drop, sym, ap, ◌∙◌, arith}
-use Rattle.model.specs.Packet.{Bytes}
 use Rattle.model.specs.Reels.{cut, low}
 use Rattle.laws.proofs.ReelLaws.{answers_ok, answers_past, writes_ok, writes_past}
 use Rattle.reel.specs.Cuts.{cut_length, cut_at, low_length, low_drop, low_take}

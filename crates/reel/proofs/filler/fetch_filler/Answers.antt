@@ -1,4 +1,4 @@
-use Rattle.std.proofs.Common.{◌≡◌, ℕ, ◌<◌, ◌≤◌, length, sym, refl, ◌∙◌, arith}
+use Rattle.std.proofs.Common.{◌≡◌, ℕ, ◌<◌, ◌≤◌, length, sym, ◌∙◌, arith}
 use Rattle.model.specs.Reels.{fillers}
 use Rattle.laws.proofs.ReelLaws.{fillers_length, fillers_at, answers_ok, answers_past, writes_ok, writes_past}
 use Rattle.reel.proofs.filler.fetch_filler.Goals as goal

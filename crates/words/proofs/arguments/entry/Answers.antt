@@ -1,4 +1,4 @@
-use Rattle.std.proofs.Common.{◌≡◌, sym, ◌∙◌, subst}
+use Rattle.std.proofs.Common.{sym, ◌∙◌, subst}
 use Rattle.model.specs.Packet.{Bytes}
 use Rattle.words.specs.Arguments.{Pid}
 use Rattle.words.proofs.Endings.{front_same}

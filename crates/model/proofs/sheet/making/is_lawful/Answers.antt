@@ -1,6 +1,6 @@
 use Rattle.model.proofs.Searches.{no_entry, lawful_wide, lawful_twice, lawful_passed}
 use Rattle.std.proofs.lemmas.Slice.{between_to_end}
-use Rattle.std.proofs.Common.{◌≡◌, ◌+◌, ◌<◌, ◌≤◌, Bool, true, false, List, [], length, get_or, drop, sym, ap, ◌∙◌, arith, drop_of_length-le, rules}
+use Rattle.std.proofs.Common.{◌+◌, ◌≤◌, List, length, get_or, sym, ap, ◌∙◌, arith, drop_of_length-le, rules}
 use Rattle.model.specs.declared.entry.Entry.{Entry}
 use Rattle.model.specs.Entries.{listed, kind_of, lawful}
 use Rattle.model.proofs.sheet.making.is_lawful.Goals as goal

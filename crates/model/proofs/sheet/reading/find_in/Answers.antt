@@ -1,5 +1,5 @@
 use Rattle.model.proofs.Searches.{row_found, kind_found, row_passed, kind_passed, row_none, kind_none}
-use Rattle.std.proofs.Common.{◌<◌, ◌≤◌, length, arith, rules}
+use Rattle.std.proofs.Common.{◌<◌, ◌≤◌, length, rules}
 use Rattle.model.proofs.sheet.reading.find_in.Goals as goal
 
 pub returns-then-entry-pid : goal.returns-then-entry-pid

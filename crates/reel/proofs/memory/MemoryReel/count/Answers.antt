@@ -1,4 +1,4 @@
-use Rattle.std.proofs.Common.{◌≡◌, ◌/◌, length, sym, ap, ◌∙◌}
+use Rattle.std.proofs.Common.{◌/◌, length, sym, ap, ◌∙◌}
 use Rattle.model.specs.Packet.{Bytes}
 use Rattle.model.specs.Reels.{bad_bytes, low}
 use Rattle.reel.specs.Cuts.{cut_length, low_length, held_good}

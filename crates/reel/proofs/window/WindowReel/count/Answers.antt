@@ -1,4 +1,4 @@
-use Rattle.std.proofs.Common.{◌≡◌, sym}
+use Rattle.std.proofs.Common.{sym}
 use Rattle.laws.proofs.ReelLaws.{window_length}
 use Rattle.reel.proofs.window.WindowReel.count.Goals as goal
 
