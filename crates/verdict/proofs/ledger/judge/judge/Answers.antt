@@ -26,8 +26,8 @@ returns-in_default-find c = λ before k.
     no : {i n : ℕ} → i < n → 16 ≤ i → n ≤ 16 → ⊥
     no {i} {n} a b d = omega arith
 
-pub returns-in_default-find·2 : goal.returns-in_default-find·2
-returns-in_default-find·2 c = λ before k.
+pub returns-in_default-find-2 : goal.returns-in_default-find-2
+returns-in_default-find-2 c = λ before k.
     let es : List Entry = entries_of c.args.sheet.now in
     let f = c.in_default.ensures in
     judges_null es c.args.sheet.now.entries c.args.packet.now before c.args.rows.now k f

@@ -6,20 +6,18 @@ use Rattle.watch.proofs.sections.section.Section.push.Goals.{in-Open, in_default
 pub invariant_of-self-2 : goal.invariant_of-self-2
 invariant_of-self-2 c =
     let s = c.args.self.now in
-    let v = c.args.byte in (
-      long_after s v,
-      (
-        elim c.match-progress.branch [
-          | in-Open w ↦ λ h.
-              let e = w.self-is in
-              let t = still_unfinished s v (sym w.in-Open.ensures) (omega arith) in
-              let a = t.0 in let b = t.1 in
-              (omega arith, omega arith)
-          | in_default w ↦ λ h. let e = w.self-is in absurd (omega arith)
-        ],
-        tt,
-      ),
-    )
+    let v = c.args.byte in
+    record {
+      long = long_after s v;
+      unfinished = elim c.match-progress.branch [
+        | in-Open w ↦ λ h.
+            let e = w.self-is in
+            let t = still_unfinished s v (sym w.in-Open.ensures) (omega arith) in
+            let a = t.0 in let b = t.1 in
+            (omega arith, omega arith)
+        | in_default w ↦ λ h. let e = w.self-is in absurd (omega arith)
+      ];
+    }
 
 pub returns : goal.returns
 returns c =
