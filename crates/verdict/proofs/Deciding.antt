@@ -1,5 +1,5 @@
 -- From the rounds to the verdict.
-use Rattle.std.proofs.Common.{◌≡◌, ℕ, zero, suc, ◌+◌, ◌-◌, ◌*◌, ◌%◌, ◌<◌, ◌≤◌, Bool, true, false, cond, not, ◌&&◌, ◌||◌, eqb, ◌⊎◌, List, [], ◌∷◌, ◌++◌, length, get_or, take, Some, None, Option, sym, refl, ap, ◌∙◌, subst, inl, inr, suc-le-suc, zero-le, one-mul, zero-add, zero-mul, arith, take-suc}
+use Rattle.std.proofs.Common.{◌≡◌, ℕ, zero, suc, ◌+◌, ◌-◌, ◌*◌, ◌%◌, ◌<◌, ◌≤◌, Bool, true, false, cond, not, ◌&&◌, ◌||◌, eqb, List, [], ◌∷◌, ◌++◌, length, get_or, take, Some, None, Option, sym, refl, ap, ◌∙◌, subst, one-mul, zero-mul, arith, take-suc}
 use Rattle.std.proofs.lemmas.List.{take_all}
 use Rattle.std.proofs.lemmas.Bool.{cond-true, cond-false}
 use Rattle.model.specs.declared.entry.Entry.{Entry}
@@ -7,7 +7,7 @@ use Rattle.model.specs.Packet.{Bytes, pid, has_pcr}
 use Rattle.model.specs.Entries.{is_clock}
 use Rattle.model.specs.Form.{sound}
 use Rattle.model.specs.Rules.{rule_number}
-use Rattle.model.specs.Runs.{Packets, Placed, before, past, run, tally, counted, observed}
+use Rattle.model.specs.Runs.{Packets, before, past, run, counted}
 use Rattle.model.specs.Watches.{Finding, Whole}
 use Rattle.model.specs.Breaches.{Breach, clocked, all_clocked, first_in, in_round, verdict}
 use Rattle.laws.proofs.Rounds.{run_first}

@@ -1,24 +1,22 @@
 -- A packet judged by the rows.
-use Rattle.std.proofs.Common.{◌≡◌, ℕ, zero, suc, ◌+◌, ◌%◌, ◌<◌, ◌≤◌, Bool, true, false, cond, not, ◌&&◌, ◌||◌, eqb, leb, ◌≢◌, ◌⊎◌, List, [], ◌∷◌, length, get_or, set, Some, None, Option, sym, refl, ap, ◌∙◌, subst, inl, inr, arith, get_or-set_other, get_or-set_same}
-use Rattle.std.proofs.lemmas.Bool.{cases_Bool, cases_eq, cond-true, cond-false, and_left, and_right, eqb-true, ne_eqb, both_ways}
-use Rattle.std.proofs.lemmas.List.{get_or_default}
+use Rattle.std.proofs.Common.{◌≡◌, ℕ, ◌<◌, ◌≤◌, true, false, cond, not, ◌&&◌, eqb, List, ◌∷◌, length, get_or, set, Some, None, sym, ap, ◌∙◌, subst, inl, inr, arith, get_or-set_other, get_or-set_same}
+use Rattle.std.proofs.lemmas.Bool.{cases_Bool, cases_eq, and_left, and_right, eqb-true, ne_eqb, both_ways}
 use Rattle.model.specs.declared.entry.Entry.{Entry}
 use Rattle.model.specs.declared.entry.Kind.TheVariants.{Pes}
 use Rattle.model.specs.declared.rule.Rule.{Rule}
 use Rattle.model.specs.declared.rule.Rule.TheVariants.{Continuity}
 use Rattle.model.specs.Packet.{Bytes, pid, is_null}
-use Rattle.model.specs.Entries.{kind_of, listed, lawful, row_of}
+use Rattle.model.specs.Entries.{lawful, row_of}
 use Rattle.model.specs.Form.{sound, form}
-use Rattle.model.specs.Runs.{copy, continues, is_observed}
-use Rattle.model.specs.Watches.{basic}
-use Rattle.model.specs.Rules.{numbered, rule_number}
+use Rattle.model.specs.Runs.{copy, continues}
+use Rattle.model.specs.Rules.{rule_number}
 use Rattle.laws.proofs.SoundForm.{sound_listed}
 use Rattle.verdict.specs.declared.ledger.Row.{Row}
 use Rattle.verdict.specs.declared.ledger.Judged.{Judged}
 use Rattle.verdict.specs.Ledgers.{RowKnows, Knows, Judges, copy_by, right_by, noted_by}
-use Rattle.verdict.proofs.Entries.{listed_at, low_pid, same_row}
+use Rattle.verdict.proofs.Entries.{low_pid, same_row}
 use Rattle.verdict.proofs.Rows.{knows_other, knows_mine, judges_mine}
-use Rattle.verdict.specs.Going.{RowOf, unlisted, row, rows}
+use Rattle.verdict.specs.Going.{unlisted, row, rows}
 use Rattle.model.specs.Tests.{is_none, or_else}
 
 module _ (es : List Entry) (legal : lawful es ≡ true) (p : Bytes) (before : List Bytes) (table : List Row) (k : Knows es before table) where

@@ -1,5 +1,5 @@
 -- One packet more: what is found at it, and what is then known.
-use Rattle.std.proofs.Common.{◌≡◌, ℕ, suc, ◌+◌, ◌*◌, ◌<◌, ◌≤◌, Bool, true, false, cond, List, [], ◌∷◌, ◌++◌, length, get_or, Some, None, Option, sym, refl, ap, ◌∙◌, subst, append_assoc, add-one, arith}
+use Rattle.std.proofs.Common.{◌≡◌, ℕ, suc, ◌+◌, true, false, List, [], ◌∷◌, ◌++◌, Some, None, Option, sym, ap, ◌∙◌, subst, append_assoc, add-one}
 use Rattle.std.proofs.lemmas.List.{append-nil}
 use Rattle.std.proofs.lemmas.Bool.{cond-true, cond-false}
 use Rattle.model.specs.declared.entry.Entry.{Entry}
@@ -10,7 +10,7 @@ use Rattle.model.specs.Watches.{Finding, basic, breach, found}
 use Rattle.model.specs.Rules.{numbered, rule_number}
 use Rattle.verdict.specs.declared.ledger.Row.{Row}
 use Rattle.verdict.specs.declared.ledger.Judged.{Judged}
-use Rattle.verdict.specs.Ledgers.{Knows, Judges, State}
+use Rattle.verdict.specs.Ledgers.{Judges, State}
 use Rattle.model.specs.Tests.{or_else}
 
 abbrev pub at : ℕ → Bytes → Placed

@@ -1,8 +1,7 @@
 -- What a row knows of the packets past is what the definitions ask of them.
-use Rattle.std.proofs.Common.{◌≡◌, ℕ, zero, suc, ◌+◌, ◌%◌, ◌<◌, ◌≤◌, Bool, true, false, cond, not, ◌&&◌, ◌||◌, eqb, leb, ◌⊎◌, List, [], ◌∷◌, length, get_or, Some, None, Option, sym, refl, ap, ◌∙◌, subst, inl, inr, zero-add, arith}
-use Rattle.std.proofs.lemmas.Bool.{cases_Bool, cond-true, cond-false, and_parts, and_from, and_left, and_right, eq-eqb, ne_eqb, eqb-true, leb-true, not-false, not-true, both_ways, or_from}
+use Rattle.std.proofs.Common.{◌≡◌, ℕ, ◌+◌, ◌%◌, Bool, true, false, cond, not, ◌&&◌, ◌||◌, eqb, List, [], ◌∷◌, Some, None, sym, refl, ap, ◌∙◌, inl, inr, zero-add, arith}
+use Rattle.std.proofs.lemmas.Bool.{cases_Bool, cond-true, cond-false, and_from, eq-eqb, both_ways}
 use Rattle.model.specs.declared.entry.Entry.{Entry}
-use Rattle.model.specs.declared.rule.Rule.{Rule}
 use Rattle.model.specs.declared.rule.Rule.TheVariants.{Continuity}
 use Rattle.model.specs.Packet.{Bytes, pid, has_payload, continuity_counter, has_pcr, is_null}
 use Rattle.model.specs.Form.{sound, form}
@@ -13,7 +12,7 @@ use Rattle.model.specs.Rules.{numbered}
 use Rattle.verdict.specs.declared.ledger.Row.{Row}
 use Rattle.verdict.specs.declared.ledger.Judged.{Judged}
 use Rattle.verdict.specs.Ledgers.{last_of, last_copy, RowKnows, Knows, Judges, copy_of, right_of, copy_by, right_by, noted_by}
-use Rattle.model.specs.Tests.{is_none, or_else}
+use Rattle.model.specs.Tests.{or_else}
 
 module _ (es : List Entry) (p : Bytes) where
   abbrev q0 : ℕ

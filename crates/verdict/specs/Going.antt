@@ -1,8 +1,8 @@
 -- Going through a round.
-use Rattle.std.specs.Prelude.{◌≡◌, ℕ, zero, suc, ◌+◌, ◌-◌, ◌*◌, ◌/◌, ◌%◌, ◌<◌, ◌≤◌, Bool, true, false, cond, not, ◌&&◌, ◌⊎◌, List, [], ◌∷◌, ◌++◌, length, get_or, Some, None, Option, ◌==◌, ◌≢◌, slice_index_or, refl}
-use Rattle.std.proofs.Common.{sym, subst, ◌∙◌, inl, inr, suc-le-suc, zero-le, le_of_suc-le-suc, zero-mul, mod-eq_of_lt, mul_comm, add_comm, mul-add, mul_left_comm, zero-add, add-mul, one-mul, arith, add-one}
+use Rattle.std.specs.Prelude.{◌≡◌, ℕ, zero, suc, ◌+◌, ◌-◌, ◌*◌, ◌/◌, ◌%◌, ◌<◌, ◌≤◌, false, List, [], ◌∷◌, length, get_or, Some, None, Option, ◌==◌, ◌≢◌, slice_index_or, refl}
+use Rattle.std.proofs.Common.{sym, subst, ◌∙◌, inl, inr, suc-le-suc, zero-le, le_of_suc-le-suc, zero-mul, mod-eq_of_lt, add_comm, mul-add, mul_left_comm, zero-add, add-mul, one-mul, arith, add-one}
 use Rattle.std.proofs.Math.Path.{ap}
-use Rattle.std.proofs.Math.Nat.{div-eq_of_lt, mod-mod, add-mul-div_right, add-mul-mod_self_right}
+use Rattle.std.proofs.Math.Nat.{div-eq_of_lt, add-mul-div_right, add-mul-mod_self_right}
 use Rattle.model.specs.declared.entry.Kind.TheVariants.{Pes}
 use Rattle.std.proofs.lemmas.Bool.{cases_Bool, cases_order, cases_lt, cond-true, cond-false, and_right, eqb-true, eq-eqb, ne_eqb}
 use Rattle.model.specs.declared.entry.Entry.{Entry}
@@ -12,9 +12,9 @@ use Rattle.model.specs.Entries.{row_of, next, kind_of, listed}
 use Rattle.model.specs.Form.{sound}
 use Rattle.model.specs.Moves.{moved, moves, move_header, move_stamps, W, stamps}
 use Rattle.model.specs.Runs.{Packets, tally, run}
-use Rattle.model.specs.Watches.{Finding, breach, Whole}
+use Rattle.model.specs.Watches.{Finding, breach}
 use Rattle.model.specs.Breaches.{first_in}
-use Rattle.laws.proofs.CheckLaw.{First, first, none, some}
+use Rattle.laws.proofs.CheckLaw.{first, none, some}
 use Rattle.verdict.specs.Tallies.{at_row, restamped_by}
 use Rattle.verdict.specs.Ledgers.{Tallied}
 

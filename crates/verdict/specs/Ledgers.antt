@@ -3,7 +3,7 @@ use Rattle.std.specs.Prelude.{◌≡◌, ℕ, ◌+◌, ◌*◌, ◌%◌, ◌<◌
 use Rattle.verdict.specs.declared.verdict.Fault.{Fault}
 use Rattle.verdict.specs.Verdicts.{fault_at}
 use Rattle.model.specs.declared.entry.Entry.{Entry}
-use Rattle.model.specs.Entries.{row_of, is_clock}
+use Rattle.model.specs.Entries.{is_clock}
 use Rattle.model.specs.Packet.{Bytes, pid, has_payload, continuity_counter, has_pcr}
 use Rattle.model.specs.Form.{sound}
 use Rattle.model.specs.Runs.{Packets, Placed, same, copy, counted, tally, past, observed, is_observed, run}

@@ -1,20 +1,18 @@
 -- Rounds of a reel are a reel: the first packets of the endless run.
-use Rattle.std.specs.Prelude.{◌≡◌, ℕ, zero, suc, ◌+◌, ◌*◌, ◌/◌, ◌%◌, ◌<◌, ◌≤◌, Bool, true, false, cond, ◌&&◌, ◌⊎◌, List, [], ◌∷◌, ◌++◌, length, get_or, Option, nat_le, slice_index, slice_index_or, refl}
-use Rattle.std.proofs.Common.{sym, ap, subst, ◌∙◌, inl, inr, mod-lt, mul-pos, mul_comm, div-lt_iff_lt-mul, add-one, arith, length-append}
+use Rattle.std.specs.Prelude.{◌≡◌, ℕ, zero, suc, ◌+◌, ◌*◌, ◌/◌, ◌%◌, ◌<◌, ◌≤◌, true, false, List, [], ◌∷◌, ◌++◌, length, get_or, nat_le, slice_index, slice_index_or, refl}
+use Rattle.std.proofs.Common.{sym, ap, subst, ◌∙◌, inl, inr, mod-lt, mul-pos, add-one, arith, length-append}
 use Rattle.std.proofs.Math.ListN.{get_or-append}
 use Rattle.std.proofs.Math.Seq.{get_or-append_seam}
 use Rattle.std.proofs.lemmas.Bool.{cases_Bool, cases_lt, cond-true, cond-false, and_parts, leb-true}
 use Rattle.model.specs.declared.entry.Entry.{Entry}
-use Rattle.model.specs.Packet.{Bytes, byte, pid}
+use Rattle.model.specs.Packet.{Bytes, pid}
 use Rattle.model.specs.Moves.{moved}
-use Rattle.model.specs.Entries.{row_of}
 use Rattle.model.specs.Runs.{Packets, run, tally}
 use Rattle.model.specs.Watches.{Whole}
 use Rattle.laws.specs.Theorems.{Sized}
 use Rattle.laws.proofs.Final.{moves_lawfully}
 use Rattle.laws.proofs.Rounds.{times300}
 use Rattle.verdict.specs.Ledgers.{Tallied}
-use Rattle.verdict.specs.Tallies.{at_row, round_stamped}
 use Rattle.verdict.specs.RoundReels.{first_of, fit_rounds, stamped_at, rounds_by}
 use Rattle.verdict.specs.Going.{by_table}
 

@@ -1,5 +1,5 @@
 -- Restamping by a table of tallies.
-use Rattle.std.specs.Prelude.{ℕ, ◌+◌, ◌*◌, List, [], ◌∷◌, length, Some, None, Option, slice_index}
+use Rattle.std.specs.Prelude.{ℕ, ◌*◌, List, Some, None, Option, slice_index}
 use Rattle.model.specs.declared.entry.Entry.{Entry}
 use Rattle.model.specs.Entries.{row_of}
 use Rattle.model.specs.Packet.{Bytes, pid}

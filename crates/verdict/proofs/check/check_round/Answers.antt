@@ -1,16 +1,15 @@
-use Rattle.std.proofs.Common.{◌≡◌, ℕ, suc, ◌+◌, ◌*◌, ◌<◌, ◌≤◌, List, [], length, get_or, replicate, Some, None, Option, sym, refl, ap, ◌∙◌, subst, add_assoc, arith, below_more}
+use Rattle.std.proofs.Common.{◌≡◌, ℕ, ◌+◌, ◌*◌, ◌<◌, List, [], length, get_or, replicate, Some, None, sym, refl, ap, ◌∙◌, subst, add_assoc, arith, below_more}
 use Rattle.model.specs.declared.entry.Entry.{Entry}
-use Rattle.model.specs.declared.rule.Rule.{Rule}
 use Rattle.model.specs.Packet.{Bytes}
 use Rattle.model.specs.Runs.{Packets, run}
 use Rattle.model.specs.Reels.{filled}
-use Rattle.model.specs.Rules.{numbered, rule_number}
-use Rattle.model.specs.Watches.{Finding, breach}
+use Rattle.model.specs.Rules.{rule_number}
+use Rattle.model.specs.Watches.{breach}
 use Rattle.model.specs.Sheets.{entries_of, round_of}
 use Rattle.laws.proofs.ReelLaws.{writes_ok}
 use Rattle.verdict.specs.declared.verdict.Fault.{Fault}
 use Rattle.verdict.specs.Tallies.{restamped_by}
-use Rattle.verdict.specs.Ledgers.{State, Tallied}
+use Rattle.verdict.specs.Ledgers.{State}
 use Rattle.verdict.specs.Going.{run_at, round_some, round_none}
 use Rattle.verdict.proofs.check.check_round.Goals as goal
 

@@ -1,4 +1,4 @@
-use Rattle.std.proofs.Common.{◌≡◌, ℕ, ◌+◌, ◌*◌, ◌<◌, ◌≤◌, List, length, None}
+use Rattle.std.proofs.Common.{◌≡◌, ℕ, ◌+◌, ◌*◌, ◌<◌, ◌≤◌, length, None}
 use Rattle.model.specs.Watches.{Finding, breach}
 use Rattle.model.specs.Sheets.{entries_of, round_of}
 use Rattle.verdict.specs.Ledgers.{State, Tallied}

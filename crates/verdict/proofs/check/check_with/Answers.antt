@@ -1,13 +1,10 @@
-use Rattle.std.proofs.Common.{◌≡◌, ℕ, ◌+◌, ◌*◌, ◌%◌, ◌≤◌, true, false, List, [], length, Some, None, Option, sym, refl, ap, ◌∙◌, subst, arith}
+use Rattle.std.proofs.Common.{◌≡◌, ℕ, ◌*◌, ◌%◌, ◌≤◌, true, false, List, length, Some, None, refl, ap, ◌∙◌, subst, arith}
 use Rattle.model.specs.declared.entry.Entry.{Entry}
 use Rattle.model.specs.declared.rule.Rule.{Rule}
 use Rattle.model.specs.Runs.{Packets, past}
 use Rattle.model.specs.Watches.{Finding, Whole}
 use Rattle.model.specs.Breaches.{all_clocked}
 use Rattle.model.specs.Sheets.{entries_of, round_of}
-use Rattle.verdict.specs.declared.ledger.Row.{Row}
-use Rattle.verdict.specs.declared.verdict.Fault.{Fault}
-use Rattle.verdict.specs.declared.verdict.Verdict.{Verdict}
 use Rattle.verdict.specs.declared.verdict.Verdict.TheVariants.{Approved, Breach}
 use Rattle.verdict.specs.Ledgers.{State, Tallied, Rounds, Knows}
 use Rattle.verdict.proofs.Sheets.{few_entries, whole_round}

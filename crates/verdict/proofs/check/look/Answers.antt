@@ -1,4 +1,4 @@
-use Rattle.std.proofs.Common.{◌≡◌, ℕ, Some, None, sym, ◌∙◌, arith}
+use Rattle.std.proofs.Common.{◌≡◌, ℕ, Some, None, arith}
 use Rattle.model.specs.Sheets.{entries_of}
 use Rattle.verdict.proofs.Looking.{look_broken, look_observed, next_observed, look_untold, next_untold}
 use Rattle.model.specs.declared.rule.Rule.{Rule}

@@ -1,6 +1,6 @@
-use Rattle.std.proofs.Common.{◌≡◌, ℕ, ◌*◌, List, sym, ap, ◌∙◌}
+use Rattle.std.proofs.Common.{ℕ, ◌*◌, List, sym, ap, ◌∙◌}
 use Rattle.model.specs.declared.entry.Entry.{Entry}
-use Rattle.model.specs.Packet.{Bytes, pid}
+use Rattle.model.specs.Packet.{Bytes}
 use Rattle.model.specs.Entries.{row_of, kind_of}
 use Rattle.model.specs.Moves.{moved}
 use Rattle.model.specs.Sheets.{entries_of}

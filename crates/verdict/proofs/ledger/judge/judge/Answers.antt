@@ -1,7 +1,6 @@
-use Rattle.std.proofs.Common.{◌≡◌, ℕ, ◌<◌, ◌≤◌, true, false, List, length, Some, None, sym, refl, ap, ◌∙◌, subst, arith}
+use Rattle.std.proofs.Common.{ℕ, ◌<◌, ◌≤◌, false, List, None, ap, ◌∙◌, arith}
 use Rattle.model.specs.declared.entry.Entry.{Entry}
 use Rattle.model.specs.Entries.{row_of}
-use Rattle.model.specs.Packet.{Bytes}
 use Rattle.model.specs.Sheets.{entries_of}
 use Rattle.verdict.specs.declared.ledger.Row.{Row}
 use Rattle.verdict.proofs.Sheets.{few_entries}

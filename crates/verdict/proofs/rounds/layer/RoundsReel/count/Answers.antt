@@ -1,4 +1,4 @@
-use Rattle.std.proofs.Common.{◌≡◌, ◌*◌, sym, ap, ◌∙◌}
+use Rattle.std.proofs.Common.{◌*◌, sym, ap, ◌∙◌}
 use Rattle.model.specs.Sheets.{entries_of, round_of}
 use Rattle.verdict.specs.RoundLaws.{rounds_length}
 use Rattle.verdict.proofs.rounds.layer.RoundsReel.count.Goals as goal

@@ -1,8 +1,8 @@
-use Rattle.std.proofs.Common.{◌≡◌, ℕ, ◌+◌, ◌*◌, ◌/◌, ◌%◌, ◌<◌, ◌≤◌, List, [], length, get_or, sym, refl, ap, ◌∙◌, subst, mod-lt, div-lt_iff_lt-mul, arith, rules}
+use Rattle.std.proofs.Common.{◌≡◌, ℕ, ◌*◌, ◌/◌, ◌%◌, ◌<◌, ◌≤◌, List, [], length, get_or, sym, refl, ap, ◌∙◌, subst, mod-lt, div-lt_iff_lt-mul, arith}
 use Rattle.model.specs.declared.entry.Entry.{Entry}
 use Rattle.model.specs.Runs.{Packets}
 use Rattle.model.specs.Sheets.{entries_of, round_of}
-use Rattle.verdict.specs.RoundReels.{rounds_by, stamped_at}
+use Rattle.verdict.specs.RoundReels.{rounds_by}
 use Rattle.verdict.specs.Tallies.{round_stamped}
 use Rattle.laws.proofs.ReelLaws.{answers_ok, answers_past, writes_ok, writes_past}
 use Rattle.verdict.specs.RoundLaws.{rounds_length, rounds_at, fits}
