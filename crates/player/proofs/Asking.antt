@@ -1,12 +1,11 @@
 -- What a call that is asked leaves.
-use Rattle.std.proofs.Common.{◌≡◌, ℕ, ◌+◌, ◌-◌, ◌*◌, ◌<◌, Bool, true, false, cond, ltb, leb, List, [], ◌∷◌, length, get_or, Some, None, Option, sym, refl, ap, ◌∙◌, subst, zero-add, arith}
+use Rattle.std.proofs.Common.{◌≡◌, ℕ, ◌+◌, ◌-◌, true, [], ◌∷◌, length, get_or, Some, None, Option, sym, refl, ap, ◌∙◌, subst, zero-add, arith}
 use Rattle.model.specs.declared.sheet.Sheet.{Sheet}
 use Rattle.model.specs.Packet.{Bytes}
 use Rattle.model.specs.Runs.{Packets, run}
 use Rattle.model.specs.Watches.{Finding}
 use Rattle.model.specs.Sheets.{entries_of, round_of}
 use Rattle.model.specs.Player as rules
-use Rattle.verdict.specs.declared.verdict.Checked.{Checked as Seen}
 use Rattle.player.specs.Scripts.{View, After, Asked, Sees}
 use Rattle.player.specs.Standings.{approved_in}
 use Rattle.player.specs.Players.{tallies_in}

@@ -1,13 +1,12 @@
 -- Lawful histories keep the whole statement.
-use Rattle.std.proofs.Common.{◌≡◌, ℕ, zero, suc, ◌+◌, ◌-◌, ◌*◌, ◌/◌, ◌%◌, ◌<◌, ◌≤◌, Bool, true, false, cond, not, ◌⊎◌, List, [], ◌∷◌, ◌++◌, length, get_or, Some, None, Option, sym, refl, ap, ◌∙◌, subst, inl, inr, mod-lt, add_comm, arith}
+use Rattle.std.proofs.Common.{◌≡◌, ℕ, ◌+◌, ◌*◌, ◌/◌, ◌%◌, cond, List, length, Some, None, Option, sym, refl, ap, ◌∙◌, inl, inr, mod-lt, add_comm, arith}
 use mathlib.Core.Path.{fun_ext}
 use Rattle.std.proofs.lemmas.Bool.{both_ways, cases_Bool, ltb-true, ltb-false}
 use native.Mathlib.Nat.{mod-add-div'}
 use Rattle.player.proofs.HistoryLaw.{inv}
 use Rattle.model.specs.declared.entry.Entry.{Entry}
 use Rattle.model.specs.declared.sheet.Sheet.{Sheet}
-use Rattle.model.specs.Packet.{Bytes}
-use Rattle.model.specs.Runs.{Packets, Placed, run, past}
+use Rattle.model.specs.Runs.{Packets, Placed}
 use Rattle.model.specs.Watches.{Finding, breach, Whole}
 use Rattle.model.specs.Breaches.{Breach, Broken, at, verdict, Decides}
 use Rattle.model.specs.Sheets.{entries_of, round_of}

@@ -1,5 +1,5 @@
 -- Turns as a history.
-use Rattle.std.specs.Prelude.{◌≡◌, ℕ, ◌+◌, ◌-◌, ◌*◌, Bool, true, false, cond, List, [], ◌∷◌, ◌++◌, reverse, length, get_or, Some, None, vec_items, Option}
+use Rattle.std.specs.Prelude.{◌≡◌, ℕ, Bool, true, false, List, [], ◌∷◌, reverse, Some, None, vec_items, Option}
 use Rattle.model.specs.declared.entry.Entry.{Entry}
 use Rattle.model.specs.Packet.{Bytes}
 use Rattle.model.specs.Runs.{Packets}
@@ -13,7 +13,7 @@ use Rattle.player.specs.declared.progress.script.Answer.{Answer}
 use Rattle.player.specs.declared.progress.script.Answer.TheVariants.{Unasked, Refused, Checked, Began, Sent, Ended, GaveUp as GivenUp, Counted}
 use Rattle.player.specs.declared.progress.script.Turn.{Turn}
 use Rattle.verdict.specs.declared.verdict.Checked.{Checked as Seen}
-use Rattle.player.specs.Standings.{counts_of, approved_in, standing_at}
+use Rattle.player.specs.Standings.{counts_of, approved_in}
 use Rattle.verdict.specs.Verdicts.{breach_of}
 use Rattle.player.specs.Players.{tallies_in, standing_of}
 use Rattle.verdict.specs.Ledgers.{Tallied}

@@ -1,8 +1,8 @@
 -- How a player stands, by its fields.
-use Rattle.std.specs.Prelude.{◌≡◌, ℕ, ◌+◌, ◌-◌, ◌*◌, Bool, true, false, cond, Some, None, Ok, Err, Option, Result}
+use Rattle.std.specs.Prelude.{◌≡◌, ℕ, ◌+◌, Bool, true, false, Some, None, Ok, Err, Option, Result}
 use Rattle.model.specs.declared.refusal.Refusal.{Refusal}
 use Rattle.model.specs.Refusals.{refusal_number}
-use Rattle.model.specs.Player.{Standing, Answer, refused, began, ended, gave_up, Counts as C}
+use Rattle.model.specs.Player.{Standing, Answer, refused, began, Counts as C}
 use Rattle.verdict.specs.declared.verdict.Verdict.{Verdict}
 use Rattle.verdict.specs.declared.verdict.Verdict.TheVariants.{Approved, Breach}
 use Rattle.verdict.specs.declared.verdict.Checked.{Checked}

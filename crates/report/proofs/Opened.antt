@@ -1,9 +1,9 @@
 -- What is known of a file that was read.
-use Rattle.std.proofs.Common.{◌≡◌, ℕ, ◌+◌, ◌-◌, ◌*◌, ◌/◌, ◌%◌, ◌<◌, ◌≤◌, Bool, true, false, cond, not, ◌&&◌, ◌||◌, eqb, ltb, leb, List, [], ◌∷◌, length, take, Some, None, Ok, Err, Option, Result, sym, refl, ap, ◌∙◌, inl, inr, arith, length-take}
-use Rattle.std.proofs.lemmas.Bool.{cases_Bool, cond-true, cond-false, or_parts, or_from, not-false, not_from_true, eqb-true, eq-eqb, and_parts, leb-true}
+use Rattle.std.proofs.Common.{◌≡◌, ℕ, ◌-◌, ◌*◌, ◌/◌, ◌%◌, ◌≤◌, Bool, true, false, cond, not, ◌&&◌, ◌||◌, eqb, [], ◌∷◌, length, take, Some, None, Ok, Option, sym, refl, ap, ◌∙◌, arith, length-take}
+use Rattle.std.proofs.lemmas.Bool.{or_parts, or_from, not-false, not_from_true, eqb-true, eq-eqb}
 use Rattle.model.specs.Packet.{Bytes}
 use Rattle.model.specs.Entries.{lawful}
-use Rattle.model.specs.Sheets.{SheetText, bad_timing}
+use Rattle.model.specs.Sheets.{bad_timing}
 use Rattle.model.specs.Tests.{first_broken, unless}
 use Rattle.model.specs.File.{FileText, opened, last, no_trailer, bad_distance, bad_count, bad_number, rate_in, round_in, count_in, distance_in, entries_in, are_entries}
 use Rattle.model.specs.Reels.{bad_bytes}

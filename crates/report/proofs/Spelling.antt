@@ -1,5 +1,5 @@
 -- Lengths of what is written.
-use Rattle.std.proofs.Common.{◌≡◌, ℕ, ◌+◌, ◌/◌, ◌%◌, ◌^◌, ◌<◌, ◌≤◌, List, [], ◌∷◌, ◌++◌, length, decimal, sym, refl, ap, ◌∙◌, lt_of_lt_of_le, lt_of_le_of_lt, arith, lit<, lit≤, length-append}
+use Rattle.std.proofs.Common.{◌≡◌, ℕ, ◌+◌, ◌/◌, ◌^◌, ◌<◌, ◌≤◌, List, ◌++◌, length, decimal, ap, ◌∙◌, lt_of_lt_of_le, lt_of_le_of_lt, arith, lit<, lit≤, length-append}
 use Rattle.model.specs.Buffers.{laid}
 use Rattle.model.specs.Refusals.{refusal_number}
 use Rattle.model.specs.declared.refusal.Refusal.{Refusal}

@@ -31,13 +31,12 @@ fn check_file(file: &[u8], contents: &Contents) -> Verdict
             let mut reel = reel;
             check::<Memory<&[u8]>, House>(&mut reel, &contents.sheet)
         }
-        Err(_) => unreachable(),
+        Err(_) => unreachable!(),
     }
 }
 
 // Reports on a file at the front of a buffer, and answers how many bytes were written, or 7 for a buffer of under 64 bytes.
-#[unsafe(no_mangle)]
-pub extern "C" fn reel_report(file: &[u8], out: &mut [u8]) -> usize
+pub fn reel_report(file: &[u8], out: &mut [u8]) -> usize
     ensures answers { result ≡ reported file.now (length out.old) }
     ensures writes { out.new ≡ reported_in file.now out.old }
 {
@@ -57,8 +56,7 @@ pub extern "C" fn reel_report(file: &[u8], out: &mut [u8]) -> usize
 }
 
 // The check of a file of any length by one number: 0 where it is approved, else that of the refusal or of the rule broken first.
-#[unsafe(no_mangle)]
-pub extern "C" fn reel_check(file: &[u8]) -> u64
+pub fn reel_check(file: &[u8]) -> u64
     ensures { result ≡ check_number file.now (opened file.now) }
 {
     match read(file) {

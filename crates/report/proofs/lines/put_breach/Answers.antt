@@ -1,4 +1,4 @@
-use Rattle.std.proofs.Common.{◌≡◌, ℕ, ◌+◌, ◌≤◌, List, [], ◌∷◌, ◌++◌, length, codes, decimal, sym, refl, ap, ◌∙◌, append_assoc, arith}
+use Rattle.std.proofs.Common.{◌≤◌, ◌++◌, length, codes, decimal, ap, append_assoc, arith}
 use Rattle.model.specs.Rules.{rule_number}
 use Rattle.report.proofs.Spelling.{word_digits, long_digits, begun, carried, respelt}
 use Rattle.report.proofs.lines.put_breach.Goals as goal
@@ -29,14 +29,14 @@ pub put_decimal-end-requires-3 : goal.put_decimal-end-requires-3
 put_decimal-end-requires-3 c =
     let r = word_digits c.args.round c.ranges.round.fits in
     let p = long_digits c.args.packet c.ranges.packet.fits in
-    let n = word_digits c.rule_number.result c.rule_number.type-inv in
+    let n = word_digits c.rule_number.result c.rule_number.type_inv in
     omega (arith, c.put_text-end.ensures.ends, c.put_decimal-end.ensures.ends, c.put_text-end-2.ensures.ends, c.put_decimal-end-2.ensures.ends, c.put_text-end-3.ensures.ends)
 
 pub put_text-requires : goal.put_text-requires
 put_text-requires c =
     let r = word_digits c.args.round c.ranges.round.fits in
     let p = long_digits c.args.packet c.ranges.packet.fits in
-    let n = word_digits c.rule_number.result c.rule_number.type-inv in
+    let n = word_digits c.rule_number.result c.rule_number.type_inv in
     omega (arith, c.put_text-end.ensures.ends, c.put_decimal-end.ensures.ends, c.put_text-end-2.ensures.ends, c.put_decimal-end-2.ensures.ends, c.put_text-end-3.ensures.ends, c.put_decimal-end-3.ensures.ends)
 
 pub returns : goal.returns

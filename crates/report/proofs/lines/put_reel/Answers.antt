@@ -1,4 +1,4 @@
-use Rattle.std.proofs.Common.{◌≡◌, ℕ, ◌+◌, ◌≤◌, List, [], ◌∷◌, ◌++◌, length, codes, decimal, sym, refl, ap, ◌∙◌, append_assoc, arith}
+use Rattle.std.proofs.Common.{◌≤◌, ◌++◌, length, codes, decimal, append_assoc, arith}
 use Rattle.report.proofs.Spelling.{three_digits, two_digits, begun, carried, respelt}
 use Rattle.report.proofs.lines.put_reel.Goals as goal
 

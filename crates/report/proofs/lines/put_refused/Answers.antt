@@ -1,4 +1,4 @@
-use Rattle.std.proofs.Common.{◌≡◌, ℕ, ◌+◌, ◌≤◌, List, [], ◌∷◌, ◌++◌, length, codes, decimal, sym, refl, ap, ◌∙◌, append_assoc, arith}
+use Rattle.std.proofs.Common.{◌≤◌, ◌++◌, length, codes, decimal, ap, ◌∙◌, append_assoc, arith}
 use Rattle.model.specs.Refusals.{refusal_number}
 use Rattle.report.proofs.Spelling.{two_digits, refusal_small, begun, carried, respelt}
 use Rattle.report.proofs.lines.put_refused.Goals as goal

@@ -1,8 +1,7 @@
-use Rattle.std.proofs.Common.{◌≡◌, ℕ, ◌-◌, ◌*◌, false, cond, take, drop, Ok, Err, Result, sym, refl, ap, ◌∙◌, arith}
+use Rattle.std.proofs.Common.{◌≡◌, ℕ, ◌-◌, ◌*◌, false, take, Ok, Err, Result, ap, ◌∙◌, arith}
 use Rattle.std.proofs.lemmas.Bool.{cond-false}
 use Rattle.model.specs.Breaches.{verdict}
 use Rattle.model.specs.House.{house}
-use Rattle.model.specs.Packet.{Bytes}
 use Rattle.model.specs.Reels.{bad_bytes, cut, held}
 use Rattle.model.specs.Runs.{Packets}
 use Rattle.model.specs.Sheets.{entries_of, round_of, rate_of}

@@ -1,13 +1,11 @@
-use Rattle.std.proofs.Common.{◌≡◌, ℕ, ◌+◌, ◌≤◌, Bool, false, cond, ltb, List, ◌++◌, length, Ok, sym, refl, ap, ◌∙◌, arith}
+use Rattle.std.proofs.Common.{◌≡◌, ◌+◌, false, cond, ltb, List, ◌++◌, length, sym, ap, ◌∙◌, arith}
 use Rattle.std.proofs.lemmas.Bool.{le-ltb}
 use Rattle.model.specs.declared.entry.Entry.{Entry}
 use Rattle.model.specs.Buffers.{laid}
 use Rattle.model.specs.File.{FileText, opened}
-use Rattle.model.specs.Packet.{Bytes}
 use Rattle.model.specs.Report.{refused_line, reel_line, verdict_line, checked_file, described, report_of}
-use Rattle.model.specs.Sheets.{entries_of}
 use Rattle.file.specs.Reading.{contents_of}
-use Rattle.report.proofs.Spelling.{Written, begun, carried, respelt}
+use Rattle.report.proofs.Spelling.{begun, carried, respelt}
 use Rattle.report.proofs.report.reel_report.Goals as goal
 
 pub returns-in-Ok : goal.returns-in-Ok

@@ -1,4 +1,4 @@
-use Rattle.std.proofs.Common.{◌≡◌, ℕ, ◌-◌, ◌*◌, List, sym, ap, ◌∙◌}
+use Rattle.std.proofs.Common.{ℕ, ◌-◌, ◌*◌, List, ap, ◌∙◌}
 use Rattle.model.specs.Sheets.{entries_of, round_of}
 use Rattle.verdict.specs.Tallies.{restamped_by, at_row}
 use Rattle.model.specs.Entries.{row_of}

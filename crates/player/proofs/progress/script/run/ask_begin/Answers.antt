@@ -1,11 +1,9 @@
-use Rattle.std.proofs.Common.{◌≡◌, ℕ, ◌+◌, Bool, true, false, List, [], ◌∷◌, length, Some, None, Option, sym, refl, ap, ◌∙◌, subst, add_comm}
-use Rattle.std.proofs.lemmas.Bool.{both_ways}
+use Rattle.std.proofs.Common.{◌≡◌, ℕ, length, Some, Option, sym, ap, ◌∙◌}
 use Rattle.model.specs.Refusals.{refusal_number}
 use Rattle.model.specs.Player as rules
-use Rattle.player.specs.Scripts.{view, View, answer_of}
+use Rattle.player.specs.Scripts.{view, View}
 use Rattle.player.specs.Standings.{standing_at, approved_in, after_begin, granted?}
-use Rattle.player.specs.Players.{standing_of}
-use Rattle.player.proofs.Asking.{asks, refused_due, granted_due, counts_are, packet_is, refused_began, still_refused, still_counted, moved_wrote}
+use Rattle.player.proofs.Asking.{asks, refused_due, refused_began, still_refused}
 use Rattle.player.proofs.progress.script.run.ask_begin.Goals as goal
 
 pub returns-in-Err : goal.returns-in-Err

@@ -1,18 +1,15 @@
-use Rattle.std.proofs.Common.{◌≡◌, ℕ, ◌+◌, ◌<◌, ◌≤◌, true, false, List, [], ◌∷◌, length, take, drop, Some, None, sym, refl, ap, ◌∙◌, subst, arith}
-use mathlib.Core.Path.{fun_ext}
+use Rattle.std.proofs.Common.{ℕ, ◌<◌, false, List, length, take, sym, refl, ap, ◌∙◌, subst, arith}
 use Rattle.model.specs.declared.sheet.Sheet.{Sheet}
 use Rattle.model.specs.Runs.{Packets}
 use Rattle.model.specs.Watches.{Finding}
-use Rattle.model.specs.Breaches.{verdict}
 use Rattle.model.specs.Sheets.{entries_of, round_of}
 use Rattle.model.specs.Player as rules
 use Rattle.laws.proofs.Final.{decided}
 use Rattle.player.specs.declared.progress.script.Turn.{Turn}
-use Rattle.verdict.specs.declared.verdict.Checked.{Checked as Seen}
 use Rattle.player.specs.Standings.{standing_at, approved_in}
-use Rattle.player.specs.Scripts.{After, View, view, history_of}
+use Rattle.player.specs.Scripts.{After, view, history_of}
 use Rattle.verdict.proofs.Sheets.{whole_round}
-use Rattle.player.proofs.Scripting.{same_item, rest_more, history_more, history_all, turned_more, turned_all}
+use Rattle.player.proofs.Scripting.{rest_more, history_more, history_all, turned_more, turned_all}
 use Rattle.player.proofs.Keeping.{kept, new_sees}
 use Rattle.player.proofs.progress.script.run.run_calls.Goals as goal
 

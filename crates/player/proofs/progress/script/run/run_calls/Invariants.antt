@@ -1,5 +1,4 @@
-use Rattle.std.proofs.Common.{◌≡◌, length, take, drop}
-use Rattle.model.specs.Sheets.{entries_of, round_of}
+use Rattle.std.proofs.Common.{◌≡◌, take, drop}
 use Rattle.player.specs.Scripts.{After, Turned, view, history_of}
 use Rattle.player.proofs.progress.script.run.run_calls.Given as goal
 
