@@ -9,6 +9,7 @@ use model::sheet::Sheet;
 use model::sheet::reading::find_in;
 use std::env;
 use std::io::{Read, Write};
+use std::process::ExitCode;
 use words::arguments::{entry, rate, round};
 
 // How much is read before the next word on how far it is: 65,536 packets.
@@ -88,10 +89,12 @@ fn run(rt: &HostRuntime) -> Result<(), Fault> {
     Ok(())
 }
 
-fn main(rt: HostRuntime) -> Result<(), Fault> {
-    let result = run(&rt);
-    if let Err(fault) = &result {
-        let _ = eprintln!(rt; "reelpack: {fault}");
+fn main(rt: HostRuntime) -> ExitCode {
+    match run(&rt) {
+        Ok(()) => ExitCode::SUCCESS,
+        Err(fault) => {
+            let _ = eprintln!(rt; "reelpack: {fault}");
+            ExitCode::FAILURE
+        }
     }
-    result
 }

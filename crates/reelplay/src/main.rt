@@ -3,7 +3,10 @@
 // Plays a reel file: checks it, and writes its restamped rounds to standard output.
 mod stop;
 
-use anyhow::anyhow;
+ghost use Rattle.player.specs.declared.progress.Token.{Token};
+ghost use Rattle.reelplay.specs.Giving.{MayGiveUp};
+
+use anyhow::{Context, anyhow};
 use file::reading::read;
 use player::progress::Token;
 use player::progress::player::Player;
@@ -28,8 +31,8 @@ type Reels = Memory<Vec<u8>>;
 fn arguments(rt: &HostRuntime) -> anyhow::Result<(String, u32)> {
     let mut args = env::args(rt)?;
     let _program = args.next();
-    let name = args.next().ok_or(USAGE)?;
-    let rounds = args.next().ok_or(USAGE)?.as_str().parse::<u32>()?;
+    let name = args.next().context(USAGE)?;
+    let rounds = args.next().context(USAGE)?.as_str().parse::<u32>()?;
     Ok((name, rounds))
 }
 
@@ -38,12 +41,12 @@ fn load(rt: &HostRuntime, name: &str) -> anyhow::Result<(Player<Reels, House>, u
     let mut bytes = fs::read(rt, name)?;
     let contents = match read(bytes.as_slice()) {
         Ok(contents) => contents,
-        Err(refusal) => return Err(refusal_words(refusal).into()),
+        Err(refusal) => return Err(anyhow!(refusal_words(refusal))),
     };
     bytes.truncate(188 * contents.count);
     match Memory::new(bytes) {
         Ok(reel) => Ok((Player::new(reel, contents.sheet, UNIT), contents.count)),
-        Err((refusal, _bytes)) => Err(refusal_words(refusal).into()),
+        Err((refusal, _bytes)) => Err(anyhow!(refusal_words(refusal))),
     }
 }
 
@@ -52,15 +55,27 @@ fn send_round(
     out: &mut impl Write,
     player: &mut Player<Reels, House>,
     count: usize,
-) -> anyhow::Result<()> {
+) -> anyhow::Result<()>
+    ensures { (t : Token) → MayGiveUp player.old t → MayGiveUp player.new t }
+{
     let mut packet = [0u8; 188];
     for _ in 0..count {
         if let Err(refusal) = player.send(&mut packet) {
-            return Err(refusal_words(refusal).into());
+            return Err(anyhow!(refusal_words(refusal)));
         }
         out.write_all(&packet)?;
     }
     Ok(out.flush()?)
+}
+
+// Gives up the round of a token, which is not refused.
+fn abandon(player: &mut Player<Reels, House>, token: Token)
+    requires { MayGiveUp player.old token }
+{
+    match player.give_up(token) {
+        Ok(()) => {}
+        Err(_) => unreachable!(),
+    }
 }
 
 // One round, from its token to its end; where it cannot be sent whole it is given up.
@@ -71,17 +86,20 @@ fn play_round(
 ) -> Result<(), Stop> {
     let token = match player.begin() {
         Ok(token) => token,
-        Err(refusal) => return Err(Stop::Failed(refusal_words(refusal).into())),
+        Err(refusal) => return Err(Stop::Failed(anyhow!(refusal_words(refusal)))),
     };
     match send_round(out, player, count) {
         Ok(()) => match player.end(token) {
             Ok(()) => Ok(()),
-            Err((_, token)) => Err(Stop::Open(token)),
+            Err((refusal, token)) => {
+                abandon(player, token);
+                Err(Stop::Failed(anyhow!(refusal_words(refusal))))
+            }
         },
-        Err(error) => match player.give_up(token) {
-            Ok(()) => Err(Stop::Failed(error)),
-            Err((_, token)) => Err(Stop::Open(token)),
-        },
+        Err(error) => {
+            abandon(player, token);
+            Err(Stop::Failed(error))
+        }
     }
 }
 
@@ -106,7 +124,10 @@ fn play(rt: &HostRuntime) -> Result<(), Stop> {
     let (name, rounds) = arguments(rt)?;
     let (mut player, count) = load(rt, name.as_str())?;
     approve(rt, &mut player)?;
-    let mut out = BufWriter::new(rt.stdout());
+    let mut out = match BufWriter::new(rt.alloc(), rt.stdout()) {
+        Ok(out) => out,
+        Err(error) => return Err(Stop::Failed(error.into())),
+    };
     for round in 0..rounds {
         play_round(&mut out, &mut player, count)?;
         if let Err(error) = eprintln!(rt; "round {round} played") {
@@ -122,13 +143,9 @@ fn play(rt: &HostRuntime) -> Result<(), Stop> {
     Ok(())
 }
 
-fn main(rt: HostRuntime) -> Result<(), Stop> {
+fn main(rt: HostRuntime) -> anyhow::Result<()> {
     match play(&rt) {
         Ok(()) => Ok(()),
-        Err(Stop::Failed(error)) => match Err(error) {
-            Ok(()) => Ok(()),
-            Err(error) => Err(Stop::Failed(error)),
-        },
-        Err(Stop::Open(token)) => Err(Stop::Open(token)),
+        Err(Stop::Failed(error)) => Err(error),
     }
 }

@@ -1,9 +1,7 @@
-use player::progress::Token;
-
-// Why the program stops early. A round that could be neither ended nor given up leaves with its token.
+// Why the program stops early.
+#[derive(Drop)]
 pub enum Stop {
     Failed(anyhow::Error),
-    Open(Token),
 }
 
 impl From<anyhow::Error> for Stop {

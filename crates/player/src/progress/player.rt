@@ -1,4 +1,4 @@
-ghost use Rattle.std.specs.Prelude.{◌≡◌, ◌-◌, ◌*◌, ◌%◌, ◌≤◌};
+ghost use Rattle.std.specs.Prelude.{◌≡◌, ◌+◌, ◌-◌, ◌*◌, ◌%◌, ◌≤◌};
 
 use crate::progress::Progress;
 use model::sheet::Sheet;
@@ -15,6 +15,7 @@ pub struct Player<S, W> {
     progress: Progress,
     shift: u64,
     ghost rounds: { progress.begun ≤ 1000000 },
+    ghost closed: { progress.ended + progress.given_up ≤ progress.begun },
     ghost packets: { progress.place ≤ 1000000000 },
     ghost shifted: { shift ≡ (progress.begun - 1) * sheet.round % 2576980377600 },
 }
