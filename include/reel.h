@@ -1,5 +1,5 @@
 /*
- * Checking reel files from C. Link target/staticlib/libreport.a, which `rt staticlib report` makes; it needs memcpy and
+ * Checking reel files from C. Link target/staticlib/libreport.a, which `tools/build` makes; it needs memcpy and
  * memset of the C library and nothing else. The file, the report and the numbers are described in docs/FORMAT.md,
  * docs/REFUSALS.md and docs/RULES.md.
  *
