@@ -1,6 +1,6 @@
 /*
- * Checking reel files from C. Link target/staticlib/libreport.a, which `tools/build` makes; it needs memcpy and
- * memset of the C library and nothing else. The file, the report and the numbers are described in docs/FORMAT.md,
+ * Checking reel files from C. Link target/staticlib/libreport.a, which `tools/build` makes; it needs memcpy,
+ * memmove and memset of the C library and nothing else. The file, the report and the numbers are described in docs/FORMAT.md,
  * docs/REFUSALS.md and docs/RULES.md.
  *
  * Both calls keep no state and allocate nothing, so threads may call them at the same time, each with a buffer of its own.
