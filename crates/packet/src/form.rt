@@ -1,28 +1,17 @@
 ghost use Rattle.std.specs.Prelude.{◌≡◌, ◌≤◌, true, List, [], ◌∷◌, drop};
 ghost use Rattle.model.specs.declared.entry.Entry.{Entry};
 ghost use Rattle.model.specs.Entries.{kind_of};
-ghost use Rattle.model.specs.Tests.{all255, any_of};
+ghost use Rattle.model.specs.Tests.{any_of};
 ghost use Rattle.model.specs.Rules.{numbered};
 ghost use Rattle.model.specs.Sheets.{entries_of};
 ghost use Rattle.model.specs.Form as spec;
 ghost use Rattle.model.specs.Packet.{pid, has_adaptation_field, adaptation_field_length};
 
 use crate::header;
+use crate::stuffing::is_stuffing;
 use model::entry::Kind;
 use model::rule::Rule;
 use model::sheet::Sheet;
-
-// Whether all of some bytes are 255.
-fn is_stuffing(bytes: &[u8]) -> bool
-    ensures { result ≡ all255 bytes.now }
-{
-    for byte in bytes {
-        if *byte != 255 {
-            return false;
-        }
-    }
-    true
-}
 
 // Rule 21, from the three bytes after the sync byte.
 fn is_bad_header(b1: u8, b2: u8, b3: u8) -> bool

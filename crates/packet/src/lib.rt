@@ -8,5 +8,6 @@ pub mod header;
 pub mod moving;
 pub mod payload;
 pub mod pes;
+pub mod stuffing;
 #[cfg(test)]
 mod tests;

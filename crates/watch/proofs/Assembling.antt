@@ -47,7 +47,7 @@ open_later u l h g =
     ]
 
 -- section_length stands in the first three bytes
-length_in_front : (n : ℕ) (b : Bytes) → 3 ≤ n → section_length (take n b) ≡ section_length b
+pub length_in_front : (n : ℕ) (b : Bytes) → 3 ≤ n → section_length (take n b) ≡ section_length b
 length_in_front n b h =
     ap (λ x. x % 16 * 256 + byte (take n b) 2) (get_or-take n b 1 0 (omega arith)) ∙ ap (λ x. byte b 1 % 16 * 256 + x) (get_or-take n b 2 0 (omega arith))
 

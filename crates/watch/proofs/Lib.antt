@@ -3,3 +3,5 @@ pub mod Rows
 pub mod Recalling
 pub mod Assembling
 pub mod Following
+pub mod Extending
+pub mod Stuffing

@@ -13,6 +13,13 @@ pub enum Progress {
     Wrong(Rule),
 }
 
+// How many bytes a section took on, and what they brought.
+#[derive(Clone, Copy)]
+pub struct Taken {
+    pub count: usize,
+    pub progress: Progress,
+}
+
 // What may come after a section's end.
 #[derive(Clone, Copy)]
 pub enum Next {

@@ -1,12 +1,13 @@
 ghost use Rattle.std.specs.Prelude.{◌≡◌, if◌then◌else◌, nat_eq};
 ghost use Rattle.model.specs.Packet.{Bytes};
-ghost use Rattle.model.specs.Sections.{after_end, reads, read_all, filling, wrong};
+ghost use Rattle.model.specs.Sections.{Next as After, after_end, reads, read_all, filling, wrong};
 ghost use Rattle.watch.specs.Readings.{reading_of, next_of};
 ghost use Rattle.watch.specs.Assembled.{bytes_of};
 
 use crate::sections::progress::{Next, Progress};
 use crate::sections::section::Section;
 use model::rule::Rule;
+use packet::stuffing::is_stuffing;
 
 // A byte where only stuffing may stand.
 fn stuffing(byte: u8) -> Progress
@@ -47,13 +48,36 @@ fn read(next: Next, progress: Progress, section: &mut Section, byte: u8) -> Prog
     }
 }
 
-// Reads on through the bytes of a payload.
+// The last bytes of a payload, where only stuffing may stand.
+fn fill(bytes: &[u8]) -> Progress
+    ensures { (n : After) (u : Bytes) → reading_of result u ≡ read_all n filling bytes.now }
+{
+    if is_stuffing(bytes) {
+        Progress::Filling
+    } else {
+        Progress::Wrong(Rule::Sections)
+    }
+}
+
+// Reads on through the bytes of a payload: those of an open section and the stuffing at the end at once, any other by itself.
 pub fn read_all(next: Next, start: Progress, section: &mut Section, bytes: &[u8]) -> Progress
     ensures { reading_of result (bytes_of section.new) ≡ read_all (next_of next) (reading_of start (bytes_of section.old)) bytes.now }
 {
     let mut progress = start;
-    for byte in bytes {
-        progress = read(next, progress, section, *byte);
+    let mut i = 0;
+    while i < bytes.len() {
+        match progress {
+            Progress::Open => {
+                let taken = section.take(&bytes[i..]);
+                progress = taken.progress;
+                i += taken.count;
+            }
+            Progress::Filling => return fill(&bytes[i..]),
+            Progress::Ended | Progress::Wrong(_) => {
+                progress = read(next, progress, section, bytes[i]);
+                i += 1;
+            }
+        }
     }
     progress
 }

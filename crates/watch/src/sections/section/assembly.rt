@@ -1,10 +1,11 @@
-ghost use Rattle.std.specs.Prelude.{◌≡◌, ◌<◌, [], ◌∷◌, ◌++◌, if◌then◌else◌};
+ghost use Rattle.std.specs.Prelude.{◌≡◌, ◌+◌, ◌-◌, ◌<◌, ◌≤◌, [], ◌∷◌, ◌++◌, length, take, if◌then◌else◌, nat_eq};
+ghost use Rattle.model.specs.Crc.{crc32};
 ghost use Rattle.model.specs.Packet.{Bytes};
-ghost use Rattle.model.specs.Sections.{grown, section, wrong};
+ghost use Rattle.model.specs.Sections.{Next as After, section_length, grown, read_all, section, ended, wrong};
 ghost use Rattle.watch.specs.Readings.{reading_of};
 ghost use Rattle.watch.specs.Assembled.{bytes_of};
 
-use crate::sections::progress::Progress;
+use crate::sections::progress::{Progress, Taken};
 use crate::sections::section::Section;
 use model::rule::Rule;
 use packet::crc::crc32;
@@ -16,6 +17,25 @@ fn open_if(lawful: bool) -> Progress
         Progress::Open
     } else {
         Progress::Wrong(Rule::Sections)
+    }
+}
+
+// How many bytes follow the first three, which say so.
+fn section_length(bytes: &[u8]) -> usize
+    requires { 3 ≤ length bytes.now }
+    ensures { result ≡ section_length bytes.now }
+{
+    usize::from(bytes[1] % 16) * 256 + usize::from(bytes[2])
+}
+
+// What the last byte of a whole section brings.
+fn checked(bytes: &[u8]) -> Progress
+    ensures { (u : Bytes) → reading_of result u ≡ (if nat_eq (crc32 bytes.now) 0 then ended else wrong 29) }
+{
+    if crc32(bytes) == 0 {
+        Progress::Ended
+    } else {
+        Progress::Wrong(Rule::Crc)
     }
 }
 
@@ -33,18 +53,14 @@ fn progress_of(bytes: &[u8]) -> Progress
     if len == 2 {
         return open_if(bytes[1] / 128 % 2 == 1);
     }
-    let section_length = usize::from(bytes[1] % 16) * 256 + usize::from(bytes[2]);
+    let section_length = section_length(bytes);
     if len == 3 {
         return open_if(section_length >= 9 && section_length <= 1021);
     }
     if len != 3 + section_length {
         return Progress::Open;
     }
-    if crc32(bytes) == 0 {
-        Progress::Ended
-    } else {
-        Progress::Wrong(Rule::Crc)
-    }
+    checked(bytes)
 }
 
 impl Section {
@@ -76,5 +92,43 @@ impl Section {
             0
         };
         progress
+    }
+
+    // How many bytes an open section lacks, once its length is known.
+    fn lacks(&self) -> usize
+        requires { 3 ≤ self.now.len }
+        ensures { result ≡ 3 + section_length self.now.buffer - self.now.len }
+    {
+        3 + section_length(&self.buffer) - self.len
+    }
+
+    // Takes on the first of some bytes, or as many as the section lacks once its length is known, and says what they bring.
+    pub fn take(&mut self, bytes: &[u8]) -> Taken
+        requires { 1 ≤ length bytes.now }
+        ensures some { (1 ≤ result.count) × (result.count ≤ length bytes.now) }
+        ensures reads { (n : After) → reading_of result.progress (bytes_of self.new) ≡ read_all n (section (bytes_of self.old)) (take result.count bytes.now) }
+    {
+        if self.len < 3 {
+            return Taken {
+                count: 1,
+                progress: self.push(bytes[0]),
+            };
+        }
+        let lacks = self.lacks();
+        let count = bytes.len().min(lacks);
+        let end = self.len + count;
+        self.buffer[self.len..end].copy_from_slice(&bytes[0..count]);
+        if count < lacks {
+            self.len = end;
+            return Taken {
+                count,
+                progress: Progress::Open,
+            };
+        }
+        self.len = 0;
+        Taken {
+            count,
+            progress: checked(&self.buffer[0..end]),
+        }
     }
 }
