@@ -1,11 +1,9 @@
 #![tactic(auto)]
 
 // Leaves, exported for timing beside the same in plain Rust.
-ghost use Rattle.std.specs.Prelude.{◌≡◌, List, Some};
-ghost use Rattle.model.specs.declared.entry.Entry.{Entry};
-ghost use Rattle.model.specs.Entries.{kind_of};
+ghost use Rattle.std.specs.Prelude.{◌≡◌, Some};
 ghost use Rattle.model.specs.Moves.{moved};
-ghost use Rattle.model.specs.Packet.{pid};
+ghost use Rattle.packet.specs.Kinds.{Under};
 ghost use Rattle.packet.specs.Payloads.{payload_or};
 ghost use Rattle.bench.specs.Sizes.{size_of};
 
@@ -16,7 +14,7 @@ use packet::payload::payload_of_kind;
 // How long the payload of a packet of a PID of the clock kind is; 1,000 for an unsound one.
 #[unsafe(no_mangle)]
 pub extern "C" fn bench_payload(packet: &[u8; 188]) -> usize
-    ensures { (es : List Entry) → kind_of es (pid packet.now) ≡ Some Kind.Clock → result ≡ size_of (payload_or es packet.now) }
+    ensures { Under (Some Kind.Clock) packet.now (λ es. result ≡ size_of (payload_or es packet.now)) }
 {
     match payload_of_kind(Some(Kind::Clock), packet) {
         Ok(Some(payload)) => payload.len(),
@@ -28,7 +26,7 @@ pub extern "C" fn bench_payload(packet: &[u8; 188]) -> usize
 // Moves a packet of a PID of the clock kind on.
 #[unsafe(no_mangle)]
 pub extern "C" fn bench_move(packet: &mut [u8; 188], steps: u64, ticks: u64)
-    ensures { (es : List Entry) → kind_of es (pid packet.old) ≡ Some Kind.Clock → packet.new ≡ moved es steps ticks packet.old }
+    ensures { Under (Some Kind.Clock) packet.old (λ es. packet.new ≡ moved es steps ticks packet.old) }
 {
     move_on_as(Some(Kind::Clock), packet, steps, ticks);
 }

@@ -8,214 +8,132 @@ mod sections;
 mod tried;
 mod verdict2;
 
-use anyhow::{Context, anyhow};
-use makes::Numbers;
-use report::numbers::rule_number;
-use std::alloc::Global;
-use tried::{Tried, try_reel};
-use verdict::verdict::Verdict;
+use anyhow::{Context, ensure};
+use makes::{Numbers, clock, empty, filler, generated_reel, plain, section_reel, stamped};
+use model::entry::Kind;
+use other::Packet;
+use tried::try_reel;
 
-// How many reels were tried, and on how many both agree.
-#[derive(Clone, Copy)]
-struct Score {
+// Where the lines go, and how many reels were tried, and on how many both agree.
+#[derive(Drop)]
+struct Trial<'a> {
+    rt: &'a HostRuntime,
     tried: u32,
     agreed: u32,
 }
 
-// A line for a reel.
-fn say(rt: &HostRuntime, score: &mut Score, name: &str, tried: Tried) -> anyhow::Result<()> {
-    score.tried = score.tried.saturating_add(1);
-    let word = if tried.agree {
-        score.agreed = score.agreed.saturating_add(1);
-        "agreed"
-    } else {
-        "DIFFERS"
-    };
-    match tried.verdict {
-        Some(Verdict::Approved) => println!(rt; "{name}: APPROVED, {word}")?,
-        Some(
-            Verdict::Breach {
-                round,
-                packet,
-                rule,
-            },
-        ) => {
-            let rule = rule_number(rule);
-            println!(rt; "{name}: BREACH {round} {packet} {rule}, {word}")?
+impl Trial<'_> {
+    // Tries a reel of a kind with this round length, and writes its line.
+    fn say(&mut self, name: &str, kind: Kind, round: u64, reel: &[u8]) -> anyhow::Result<()> {
+        let tried = try_reel(self.rt.alloc(), kind, round, reel)?;
+        self.tried = self.tried.saturating_add(1);
+        if tried.agree {
+            self.agreed = self.agreed.saturating_add(1);
         }
-        None => println!(rt; "{name}: REFUSED 3, {word}")?,
+        println!(self.rt; "{name}: {tried}")?;
+        Ok(())
+    }
+}
+
+fn clocks(trial: &mut Trial<'_>) -> anyhow::Result<()> {
+    for ticks in [53_827, 53_828, 54_172, 54_173] {
+        println!(trial.rt; "two packets apart, {ticks} ticks")?;
+        let reel = [clock(0, 0), filler(), clock(0, ticks), filler()];
+        trial.say("  clock", Kind::Clock, 108_000, reel.as_flattened())?;
+    }
+    for round in [54_000, 54_300] {
+        println!(trial.rt; "a clock value in the first of two packets, {round} ticks a round")?;
+        let reel = [clock(0, 0), filler()];
+        trial.say("  clock", Kind::Clock, round, reel.as_flattened())?;
     }
     Ok(())
 }
 
-fn joined(heap: Global, packets: &[[u8; 188]]) -> anyhow::Result<Vec<u8>> {
-    let mut reel = Vec::new(heap);
-    for packet in packets {
-        reel.extend_from_slice(packet)?;
-    }
-    Ok(reel)
+fn wraps(trial: &mut Trial<'_>) -> anyhow::Result<()> {
+    let reel = clock(0, 2_576_980_377_599);
+    trial.say("the last clock value", Kind::Clock, 27_000, &reel)?;
+    let reel = stamped(0, 8_589_934_591);
+    trial.say("the last stamp", Kind::Pes, 300, &reel)
 }
 
-fn clocks(rt: &HostRuntime, score: &mut Score) -> anyhow::Result<()> {
-    for ticks in [53_827u64, 53_828, 54_172, 54_173] {
-        let reel = joined(
-            rt.alloc(),
-            &[
-                makes::clock(0, 0),
-                makes::filler(),
-                makes::clock(0, ticks),
-                makes::filler(),
-            ],
-        )?;
-        let tried = try_reel(
-            rt.alloc(),
-            makes::line(2),
-            188_000,
-            108_000,
-            reel.as_slice(),
-        )?;
-        println!(rt; "two packets apart, {ticks} ticks")?;
-        say(rt, score, "  clock", tried)?;
-    }
-    for round in [54_000u64, 54_300] {
-        let reel = joined(rt.alloc(), &[makes::clock(0, 0), makes::filler()])?;
-        let tried = try_reel(rt.alloc(), makes::line(2), 188_000, round, reel.as_slice())?;
-        println!(rt; "a clock value in the first of two packets, {round} ticks a round")?;
-        say(rt, score, "  clock", tried)?;
+fn counters(trial: &mut Trial<'_>) -> anyhow::Result<()> {
+    let cases: [(&str, &[Packet]); 4] = [
+        ("counters 5, 5, 6", &[plain(5), plain(5), plain(6)]),
+        ("three equal packets", &[plain(5), plain(5), plain(5)]),
+        ("no payload after 5, counter 5", &[plain(5), empty(5)]),
+        ("no payload after 5, counter 6", &[plain(5), empty(6)]),
+    ];
+    for (name, reel) in cases {
+        trial.say(name, Kind::Pes, 0, reel.as_flattened())?;
     }
     Ok(())
 }
 
-fn wraps(rt: &HostRuntime, score: &mut Score) -> anyhow::Result<()> {
-    let reel = joined(rt.alloc(), &[makes::clock(0, 2_576_980_377_599)])?;
-    say(
-        rt,
-        score,
-        "the last clock value",
-        try_reel(rt.alloc(), makes::line(2), 188_000, 27_000, reel.as_slice())?,
-    )?;
-    let reel = joined(rt.alloc(), &[makes::stamped(0, 8_589_934_591)])?;
-    say(
-        rt,
-        score,
-        "the last stamp",
-        try_reel(rt.alloc(), makes::line(0), 188_000, 300, reel.as_slice())?,
-    )
-}
-
-fn counters(rt: &HostRuntime, score: &mut Score) -> anyhow::Result<()> {
-    let reel = joined(
-        rt.alloc(),
-        &[makes::plain(5), makes::plain(5), makes::plain(6)],
-    )?;
-    say(
-        rt,
-        score,
-        "counters 5, 5, 6",
-        try_reel(rt.alloc(), makes::line(0), 188_000, 0, reel.as_slice())?,
-    )?;
-    let reel = joined(
-        rt.alloc(),
-        &[makes::plain(5), makes::plain(5), makes::plain(5)],
-    )?;
-    say(
-        rt,
-        score,
-        "three equal packets",
-        try_reel(rt.alloc(), makes::line(0), 188_000, 0, reel.as_slice())?,
-    )?;
-    let reel = joined(rt.alloc(), &[makes::plain(5), makes::empty(5)])?;
-    say(
-        rt,
-        score,
-        "no payload after 5, counter 5",
-        try_reel(rt.alloc(), makes::line(0), 188_000, 0, reel.as_slice())?,
-    )?;
-    let reel = joined(rt.alloc(), &[makes::plain(5), makes::empty(6)])?;
-    say(
-        rt,
-        score,
-        "no payload after 5, counter 6",
-        try_reel(rt.alloc(), makes::line(0), 188_000, 0, reel.as_slice())?,
-    )
-}
-
-fn fields(rt: &HostRuntime, score: &mut Score) -> anyhow::Result<()> {
-    for (control, length) in [(0x30u8, 182u8), (0x20, 182), (0x20, 183), (0x30, 183)] {
-        let mut packet = makes::empty(0);
+fn fields(trial: &mut Trial<'_>) -> anyhow::Result<()> {
+    for (control, length) in [(0x30, 182), (0x20, 182), (0x20, 183), (0x30, 183)] {
+        println!(trial.rt; "fourth byte {control}, adaptation length {length}")?;
+        let mut packet = empty(0);
         packet[3] = control;
         packet[4] = length;
-        let tried = try_reel(rt.alloc(), makes::line(0), 188_000, 0, &packet)?;
-        println!(rt; "fourth byte {control}, adaptation length {length}")?;
-        say(rt, score, "  field", tried)?;
+        trial.say("  field", Kind::Pes, 0, &packet)?;
     }
     Ok(())
 }
 
-fn section_lengths(rt: &HostRuntime, score: &mut Score) -> anyhow::Result<()> {
-    for length in [8u64, 9, 1_021, 1_022] {
-        let reel = makes::section_reel(rt.alloc(), length)?;
-        let tried = try_reel(rt.alloc(), makes::line(1), 188_000, 0, reel.as_slice())?;
-        println!(rt; "section_length {length}")?;
-        say(rt, score, "  section", tried)?;
+fn section_lengths(trial: &mut Trial<'_>) -> anyhow::Result<()> {
+    for length in [8, 9, 1_021, 1_022] {
+        println!(trial.rt; "section_length {length}")?;
+        let reel = section_reel(trial.rt.alloc(), length)?;
+        trial.say(
+            "  section",
+            Kind::Sections,
+            0,
+            reel.as_slice().as_flattened(),
+        )?;
     }
     Ok(())
 }
 
-fn sizes(rt: &HostRuntime, score: &mut Score) -> anyhow::Result<()> {
-    let two = joined(rt.alloc(), &[makes::filler(), makes::filler()])?;
-    for size in [187usize, 188, 375] {
-        let part = two.get(0..size).context("too few bytes")?;
-        let tried = try_reel(rt.alloc(), makes::line(0), 188_000, 27_000, part)?;
-        println!(rt; "{size} bytes of filler")?;
-        say(rt, score, "  memory", tried)?;
+fn sizes(trial: &mut Trial<'_>) -> anyhow::Result<()> {
+    let reel = [filler(), filler()];
+    for size in [187, 188, 375] {
+        println!(trial.rt; "{size} bytes of filler")?;
+        let bytes = reel.as_flattened().get(..size).context("too few bytes")?;
+        trial.say("  memory", Kind::Pes, 27_000, bytes)?;
     }
     Ok(())
 }
 
-fn generated(rt: &HostRuntime, score: &mut Score) -> anyhow::Result<()> {
+fn generated(trial: &mut Trial<'_>) -> anyhow::Result<()> {
     let mut numbers = Numbers::new(1);
     for _ in 0..300u32 {
-        let kind = numbers.below(3);
-        let reel = makes::generated_reel(rt.alloc(), &mut numbers, kind)?;
-        let packets = (reel.len() / 188) as u64;
-        let round = packets.wrapping_mul(27_000) % 2_576_980_377_600 / 300 * 300;
-        let tried = try_reel(
-            rt.alloc(),
-            makes::line(kind),
-            188_000,
-            round,
-            reel.as_slice(),
-        )?;
-        say(rt, score, "generated", tried)?;
+        let kind = numbers.kind();
+        let reel = generated_reel(trial.rt.alloc(), &mut numbers, kind)?;
+        let round = (reel.len() as u64)
+            .checked_mul(27_000)
+            .context("a round too long")?;
+        trial.say("generated", kind, round, reel.as_slice().as_flattened())?;
     }
     Ok(())
 }
 
 fn run(rt: &HostRuntime) -> anyhow::Result<()> {
-    files::edges(rt)?;
-    files::counts(rt)?;
-    files::entries(rt)?;
-    files::timings(rt)?;
-    let mut score = Score {
+    files::say_all(rt)?;
+    let mut trial = Trial {
+        rt,
         tried: 0,
         agreed: 0,
     };
-    clocks(rt, &mut score)?;
-    wraps(rt, &mut score)?;
-    counters(rt, &mut score)?;
-    fields(rt, &mut score)?;
-    section_lengths(rt, &mut score)?;
-    sizes(rt, &mut score)?;
-    generated(rt, &mut score)?;
-    let tried = score.tried;
-    let agreed = score.agreed;
-    println!(rt; "{agreed} of {tried} agreed")?;
-    if agreed == tried {
-        Ok(())
-    } else {
-        Err(anyhow!("the implementations differ"))
-    }
+    clocks(&mut trial)?;
+    wraps(&mut trial)?;
+    counters(&mut trial)?;
+    fields(&mut trial)?;
+    section_lengths(&mut trial)?;
+    sizes(&mut trial)?;
+    generated(&mut trial)?;
+    println!(rt; "{} of {} agreed", trial.agreed, trial.tried)?;
+    ensure!(trial.agreed == trial.tried, "the implementations differ");
+    Ok(())
 }
 
 fn main(rt: HostRuntime) -> anyhow::Result<()> {

@@ -1,6 +1,9 @@
 // Packets and reels to try: those of the worked cases, and generated ones.
-use crate::other::Line;
+ghost use Rattle.std.specs.Prelude.{◌<◌};
+
+use crate::other::{CLOCK_VALUES, Packet, STAMP_VALUES};
 use crate::sections::crc;
+use model::entry::Kind;
 use std::alloc::{AllocError, Global};
 
 // A stream of numbers from a seed.
@@ -16,137 +19,112 @@ impl Numbers {
         }
     }
 
-    // A number below n.
-    pub fn below(&mut self, n: u64) -> u64 {
+    // A number below n, and 0 below none.
+    pub fn below(&mut self, n: u64) -> u64
+        ensures { 0 < n → result < n }
+    {
         self.state = self
             .state
             .wrapping_mul(6_364_136_223_846_793_005)
             .wrapping_add(1_442_695_040_888_963_407);
         if n == 0 { 0 } else { (self.state >> 33) % n }
     }
+
+    pub fn kind(&mut self) -> Kind {
+        match self.below(3) {
+            0 => Kind::Pes,
+            1 => Kind::Sections,
+            _ => Kind::Clock,
+        }
+    }
 }
 
-fn low(value: u64) -> u8 {
-    (value % 256) as u8
-}
-
-// A packet of PID 256 with a payload of one byte.
-pub fn plain(counter: u64) -> [u8; 188] {
-    let mut p = [7u8; 188];
-    p[0] = 0x47;
-    p[1] = 1;
-    p[2] = 0;
-    p[3] = low(0x10 + counter % 16);
-    p
+// A packet of PID 256 with a payload.
+pub fn plain(counter: u8) -> Packet {
+    let mut packet = [7; 188];
+    packet[..4].copy_from_slice(&[0x47, 1, 0, 0x10 + counter % 16]);
+    packet
 }
 
 // A packet of PID 256 with no payload.
-pub fn empty(counter: u64) -> [u8; 188] {
-    let mut p = [255u8; 188];
-    p[0] = 0x47;
-    p[1] = 1;
-    p[2] = 0;
-    p[3] = low(0x20 + counter % 16);
-    p[4] = 183;
-    p[5] = 0;
-    p
+pub fn empty(counter: u8) -> Packet {
+    let mut packet = [255; 188];
+    packet[..6].copy_from_slice(&[0x47, 1, 0, 0x20 + counter % 16, 183, 0]);
+    packet
 }
 
 // The same with a clock value.
-pub fn clock(counter: u64, value: u64) -> [u8; 188] {
-    let mut p = empty(counter);
+pub fn clock(counter: u8, value: u64) -> Packet {
+    let value = value % CLOCK_VALUES;
     let base = value / 300;
-    p[5] = 0x10;
-    p[6] = low(base / 33_554_432);
-    p[7] = low(base / 131_072);
-    p[8] = low(base / 512);
-    p[9] = low(base / 2);
-    p[10] = low(base % 2 * 128 + 126 + value % 300 / 256);
-    p[11] = low(value % 300);
-    p
+    let [high, low] = ((value % 300) as u16).to_be_bytes();
+    let mut packet = empty(counter);
+    packet[5] = 0x10;
+    packet[6..10].copy_from_slice(&((base / 2) as u32).to_be_bytes());
+    packet[10] = (base % 2) as u8 * 128 | 0x7E | high;
+    packet[11] = low;
+    packet
 }
 
-pub fn filler() -> [u8; 188] {
-    let mut p = [255u8; 188];
-    p[0] = 0x47;
-    p[1] = 0x1F;
-    p[2] = 0xFF;
-    p[3] = 0x10;
-    p
+pub fn filler() -> Packet {
+    let mut packet = [255; 188];
+    packet[..4].copy_from_slice(&[0x47, 0x1F, 0xFF, 0x10]);
+    packet
 }
 
 // A packet that begins a PES packet with a PTS.
-pub fn stamped(counter: u64, value: u64) -> [u8; 188] {
-    let mut p = plain(counter);
-    p[1] = 0x41;
-    p[4] = 0;
-    p[5] = 0;
-    p[6] = 1;
-    p[7] = 0xE0;
-    p[10] = 0x80;
-    p[11] = 0x80;
-    p[12] = 5;
-    p[13] = low(0x21 + value / 1_073_741_824 % 8 * 2);
-    p[14] = low(value / 4_194_304);
-    p[15] = low(value / 32_768 % 128 * 2 + 1);
-    p[16] = low(value / 128);
-    p[17] = low(value % 128 * 2 + 1);
-    p
+pub fn stamped(counter: u8, value: u64) -> Packet {
+    let high = (value >> 30 & 7) as u8;
+    let [b, c] = ((value >> 15 & 0x7FFF) as u16 * 2 + 1).to_be_bytes();
+    let [d, e] = ((value & 0x7FFF) as u16 * 2 + 1).to_be_bytes();
+    let mut packet = plain(counter);
+    packet[1] = 0x41;
+    packet[4..8].copy_from_slice(&[0, 0, 1, 0xE0]);
+    packet[10..18].copy_from_slice(&[0x80, 0x80, 5, 0x21 | high << 1, b, c, d, e]);
+    packet
 }
 
-// A section of this section_length with its CRC_32.
-fn section(heap: Global, length: u64) -> Result<Vec<u8>, AllocError> {
-    let mut s = Vec::new(heap);
-    s.push(0x42)?;
-    s.push(low(0xB0 + length / 256 % 16))?;
-    s.push(low(length))?;
+// A section of this section_length, at least 4, with its CRC_32.
+fn section(heap: Global, length: u16) -> Result<Vec<u8>, AllocError> {
+    let [high, low] = length.to_be_bytes();
+    let mut section = Vec::new(heap);
+    section.extend_from_slice(&[0x42, 0xB0 + high % 16, low])?;
     for _ in 4..length {
-        s.push(0x5A)?;
+        section.push(0x5A)?;
     }
-    let sum = crc(s.as_slice());
-    s.push(low(sum / 16_777_216))?;
-    s.push(low(sum / 65_536))?;
-    s.push(low(sum / 256))?;
-    s.push(low(sum))?;
-    Ok(s)
+    let sum = crc(section.as_slice());
+    section.extend_from_slice(&sum.to_be_bytes())?;
+    Ok(section)
 }
 
 // A reel of packets that carry one section, and stuffing behind it.
-pub fn section_reel(heap: Global, length: u64) -> Result<Vec<u8>, AllocError> {
-    let s = section(heap, length)?;
+pub fn section_reel(heap: Global, length: u16) -> Result<Vec<Packet>, AllocError> {
+    let mut payload = Vec::new(heap);
+    // the pointer
+    payload.push(0)?;
+    payload.extend_from_slice(section(heap, length)?.as_slice())?;
     let mut reel = Vec::new(heap);
-    let mut place = 0usize;
-    for counter in 0..7u8 {
-        if place < s.len() {
-            reel.push(0x47)?;
-            reel.push(if counter == 0 { 0x41 } else { 1 })?;
-            reel.push(0)?;
-            reel.push(0x10 + counter)?;
-            for i in 0..184usize {
-                if counter == 0 && i == 0 {
-                    reel.push(0)?;
-                } else {
-                    reel.push(s.get(place).copied().unwrap_or(255))?;
-                    place = place.saturating_add(1);
-                }
-            }
+    for (counter, bytes) in payload.as_slice().chunks(184).enumerate() {
+        let mut packet = [255u8; 188];
+        let second = if counter == 0 { 0x41 } else { 1 };
+        packet[..4].copy_from_slice(&[0x47, second, 0, 0x10 + (counter % 16) as u8]);
+        for (place, byte) in packet[4..].iter_mut().zip(bytes) {
+            *place = *byte;
         }
+        reel.push(packet)?;
     }
     Ok(reel)
 }
 
 // One generated packet, the n-th of its reel, at a rate of 188,000 bytes for each second.
-fn generated(numbers: &mut Numbers, kind: u64, counter: u64, n: u64) -> [u8; 188] {
-    let value = n.wrapping_mul(27_000).wrapping_add(2_576_980_350_000) % 2_576_980_377_600;
-    match numbers.below(6) {
-        0 => filler(),
-        1 if kind == 2 => clock(counter.wrapping_add(15), value),
-        2 if kind == 2 => clock(
-            counter.wrapping_add(15),
-            value.wrapping_add(numbers.below(400)),
-        ),
-        3 if kind != 1 => stamped(counter, numbers.below(8_589_934_592)),
-        4 => empty(counter.wrapping_add(15)),
+fn generated(numbers: &mut Numbers, kind: Kind, counter: u8, n: u8) -> Packet {
+    let value = (u64::from(n) * 27_000 + 2_576_980_350_000) % CLOCK_VALUES;
+    match (numbers.below(6), kind) {
+        (0, _) => filler(),
+        (1, Kind::Clock) => clock(counter.wrapping_sub(1), value),
+        (2, Kind::Clock) => clock(counter.wrapping_sub(1), value + numbers.below(400)),
+        (3, Kind::Pes | Kind::Clock) => stamped(counter, numbers.below(STAMP_VALUES)),
+        (4, _) => empty(counter.wrapping_sub(1)),
         _ => plain(counter),
     }
 }
@@ -155,27 +133,24 @@ fn generated(numbers: &mut Numbers, kind: u64, counter: u64, n: u64) -> [u8; 188
 pub fn generated_reel(
     heap: Global,
     numbers: &mut Numbers,
-    kind: u64,
-) -> Result<Vec<u8>, AllocError> {
+    kind: Kind,
+) -> Result<Vec<Packet>, AllocError> {
     let mut reel = Vec::new(heap);
-    let mut counter = numbers.below(16);
-    let count = numbers.below(5).saturating_add(1);
+    let mut counter = numbers.below(16) as u8;
+    let count = numbers.below(5) as u8 + 1;
     for n in 0..count {
         let mut packet = generated(numbers, kind, counter, n);
-        if packet[3] / 16 % 2 == 1 && packet[1] != 0x1F {
+        if packet[3] & 0x10 != 0 && packet[1] != 0x1F {
             counter = counter.wrapping_add(1);
         }
         if numbers.below(12) == 0 {
-            packet[numbers.below(20) as usize % 188] = low(numbers.below(256));
+            let byte = numbers.below(256) as u8;
+            packet[numbers.below(20) as usize] = byte;
         }
-        reel.extend_from_slice(&packet)?;
+        reel.push(packet)?;
         if numbers.below(6) == 0 {
-            reel.extend_from_slice(&packet)?;
+            reel.push(packet)?;
         }
     }
     Ok(reel)
-}
-
-pub fn line(kind: u64) -> Line {
-    Line { pid: 256, kind }
 }

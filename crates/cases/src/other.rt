@@ -1,280 +1,255 @@
-// A further implementation of the check, written apart from the library: whole runs of bytes, looked back through at each
-// packet, and every read answered.
+// A further implementation of the check, written apart from the library: each packet is judged with all that stands before
+// it at hand, and nothing is remembered from one packet to the next.
 ghost use Rattle.std.specs.Prelude.{◌<◌};
 
-use std::alloc::{AllocError, Global};
+use model::entry::{Entry, Kind};
+use model::rule::Rule;
 
-// A line of the sheet: a PID, and 0, 1 or 2.
-#[derive(Clone, Copy)]
-pub struct Line {
-    pub pid: u64,
-    pub kind: u64,
+pub type Packet = [u8; 188];
+
+// The PID of filler.
+pub const NULL: u16 = 8191;
+
+// How many values a time stamp has, in ticks of 90 kHz.
+pub const STAMP_VALUES: u64 = 1 << 33;
+
+// How many values the clock has, in ticks of 27 MHz.
+pub const CLOCK_VALUES: u64 = 300 * STAMP_VALUES;
+
+pub fn pid(packet: &Packet) -> u16 {
+    u16::from_be_bytes([packet[1], packet[2]]) % 8192
 }
 
-// A breach, by numbers.
-#[derive(Clone, Copy)]
-pub struct Finding {
-    pub round: usize,
-    pub packet: usize,
-    pub rule: u64,
+// What a PID carries, where it is listed.
+pub fn kind(entries: &[Entry], pid: u16) -> Option<Kind> {
+    entries
+        .iter()
+        .find(|entry| entry.pid == pid)
+        .map(|entry| entry.kind)
 }
 
-// Byte i of packet k.
-pub fn at(run: &[u8], k: usize, i: usize) -> u64
-    ensures { result < 256 }
-{
-    let place = k.saturating_mul(188).saturating_add(i);
-    match run.get(place) {
-        Some(byte) => u64::from(*byte),
-        None => 0,
-    }
+pub fn starts(packet: &Packet) -> bool {
+    packet[1] & 0x40 != 0
 }
 
-pub fn pid(run: &[u8], k: usize) -> u64 {
-    at(run, k, 1) % 32 * 256 + at(run, k, 2)
+fn has_field(packet: &Packet) -> bool {
+    packet[3] & 0x20 != 0
 }
 
-// The kind of a PID, and 9 where it is not listed.
-pub fn kind(lines: &[Line], pid: u64) -> u64 {
-    for line in lines {
-        if line.pid == pid {
-            return line.kind;
-        }
-    }
-    9
+pub fn has_payload(packet: &Packet) -> bool {
+    packet[3] & 0x10 != 0
 }
 
-pub fn starts(run: &[u8], k: usize) -> bool {
-    at(run, k, 1) & 0x40 != 0
-}
-
-fn control(run: &[u8], k: usize) -> u64 {
-    at(run, k, 3) / 16 % 4
-}
-
-pub fn has_payload(run: &[u8], k: usize) -> bool {
-    control(run, k) % 2 == 1
-}
-
-fn flags(run: &[u8], k: usize) -> u64 {
-    if control(run, k) >= 2 && at(run, k, 4) > 0 {
-        at(run, k, 5)
+// The flags of the adaptation field.
+fn flags(packet: &Packet) -> u8 {
+    if has_field(packet) && packet[4] > 0 {
+        packet[5]
     } else {
         0
     }
 }
 
-pub fn has_clock(run: &[u8], k: usize) -> bool {
-    flags(run, k) & 0x10 != 0
+pub fn has_clock(packet: &Packet) -> bool {
+    flags(packet) & 0x10 != 0
 }
 
-pub fn payload_place(run: &[u8], k: usize) -> usize {
-    if control(run, k) >= 2 {
-        5usize.saturating_add(at(run, k, 4) as usize)
+fn payload_place(packet: &Packet) -> usize {
+    if has_field(packet) {
+        5 + usize::from(packet[4])
     } else {
         4
     }
 }
 
+pub fn payload(packet: &Packet) -> &[u8] {
+    packet.get(payload_place(packet)..).unwrap_or(&[])
+}
+
+pub fn payload_mut(packet: &mut Packet) -> &mut [u8] {
+    let place = payload_place(packet);
+    packet.get_mut(place..).unwrap_or(&mut [])
+}
+
+fn clock_extension(packet: &Packet) -> u16 {
+    u16::from_be_bytes([packet[10] & 1, packet[11]])
+}
+
 // The clock value, in ticks of 27 MHz.
-pub fn clock(run: &[u8], k: usize) -> u64 {
-    let mut base = 0u64;
-    for i in 6..10usize {
-        base = base.wrapping_mul(256).wrapping_add(at(run, k, i));
-    }
-    base.wrapping_mul(2)
-        .wrapping_add(at(run, k, 10) / 128)
-        .wrapping_mul(300)
-        .wrapping_add(at(run, k, 10) % 2 * 256)
-        .wrapping_add(at(run, k, 11))
+pub fn clock(packet: &Packet) -> u64
+    ensures { result < CLOCK_VALUES }
+{
+    let high = u32::from_be_bytes([packet[6], packet[7], packet[8], packet[9]]);
+    let base = 2 * u64::from(high) + u64::from(packet[10] >> 7);
+    (300 * base + u64::from(clock_extension(packet))) % CLOCK_VALUES
 }
 
 // Whether the adaptation field's last bytes are all 255.
-fn is_stuffed(run: &[u8], k: usize) -> bool {
-    let from = if has_clock(run, k) { 12 } else { 6 };
-    for i in from..payload_place(run, k) {
-        if at(run, k, i) != 255 {
-            return false;
-        }
-    }
-    true
+fn is_stuffed(packet: &Packet) -> bool {
+    let from = if has_clock(packet) { 12 } else { 6 };
+    packet
+        .iter()
+        .take(payload_place(packet))
+        .skip(from)
+        .all(|byte| *byte == 255)
 }
 
-fn is_bad_field(run: &[u8], k: usize) -> bool {
-    let length = at(run, k, 4);
-    match control(run, k) {
-        0 => true,
-        1 => false,
-        2 if starts(run, k) || length != 183 => true,
-        3 if length > 182 => true,
-        _ => {
-            flags(run, k) & 0x8F != 0
-                || has_clock(run, k) && length < 7
-                || length > 0 && !is_stuffed(run, k)
+fn is_bad_field(packet: &Packet) -> bool {
+    let length = packet[4];
+    match (has_field(packet), has_payload(packet)) {
+        (false, payload) => !payload,
+        (true, false) if starts(packet) || length != 183 => true,
+        (true, true) if length > 182 => true,
+        (true, _) => {
+            flags(packet) & 0x8F != 0
+                || has_clock(packet) && length < 7
+                || length > 0 && !is_stuffed(packet)
         }
     }
 }
 
-// The rule of form that a packet breaks, or 0.
-pub fn form(lines: &[Line], run: &[u8], k: usize) -> u64 {
-    let null = pid(run, k) == 8191;
-    let kind = kind(lines, pid(run, k));
-    if at(run, k, 0) != 0x47 {
-        20
-    } else if at(run, k, 1) >= 128
-        || at(run, k, 3) >= 64
-        || null && (starts(run, k) || control(run, k) != 1)
+// The first rule of form that a packet breaks.
+fn form(entries: &[Entry], packet: &Packet) -> Result<(), Rule> {
+    let null = pid(packet) == NULL;
+    let kind = kind(entries, pid(packet));
+    if packet[0] != 0x47 {
+        Err(Rule::Sync)
+    } else if packet[1] & 0x80 != 0
+        || packet[3] & 0xC0 != 0
+        || null && (starts(packet) || has_field(packet) || !has_payload(packet))
     {
-        21
-    } else if kind == 9 && !null {
-        22
-    } else if is_bad_field(run, k) {
-        23
-    } else if has_clock(run, k) && (kind != 2 || at(run, k, 10) % 2 * 256 + at(run, k, 11) > 299) {
-        24
+        Err(Rule::Header)
+    } else if kind.is_none() && !null {
+        Err(Rule::Pid)
+    } else if is_bad_field(packet) {
+        Err(Rule::AdaptationField)
+    } else if has_clock(packet) && (kind != Some(Kind::Clock) || clock_extension(packet) > 299) {
+        Err(Rule::Clock)
     } else {
-        0
+        Ok(())
     }
 }
 
-// The packet before k that is sound and of its PID, and k where there is none.
-fn predecessor(lines: &[Line], run: &[u8], k: usize) -> usize {
-    let mut found = k;
-    for j in 0..k {
-        if pid(run, j) == pid(run, k) && form(lines, run, j) == 0 {
-            found = j;
-        }
-    }
-    found
+// A packet of a run, and what is known of it.
+#[derive(Clone, Copy)]
+pub struct Seen {
+    pub packet: Packet,
+    pub form: Result<(), Rule>,
+    // whether it repeats the packet before it of its PID
+    pub copy: bool,
 }
 
-fn same_bytes(run: &[u8], j: usize, k: usize) -> bool {
-    for i in 0..188usize {
-        if at(run, j, i) != at(run, k, i) {
-            return false;
-        }
+impl Seen {
+    // A packet behind others.
+    pub fn new(entries: &[Entry], before: &[Seen], packet: Packet) -> Seen {
+        let form = form(entries, &packet);
+        let copy = form.is_ok()
+            && predecessor(before, &packet).is_some_and(|last| {
+                last.packet == packet && has_payload(&last.packet) && !last.copy
+            });
+        Seen { packet, form, copy }
     }
-    true
-}
 
-pub fn flag(list: &[bool], k: usize) -> bool {
-    match list.get(k) {
-        Some(flag) => *flag,
-        None => false,
-    }
-}
-
-// Which packets of a run are copies.
-pub fn copies(heap: Global, lines: &[Line], run: &[u8]) -> Result<Vec<bool>, AllocError> {
-    let mut list = Vec::new(heap);
-    for k in 0..run.len() / 188 {
-        let j = predecessor(lines, run, k);
-        let copy = j != k
-            && form(lines, run, k) == 0
-            && same_bytes(run, j, k)
-            && has_payload(run, j)
-            && !flag(list.as_slice(), j);
-        list.push(copy)?;
-    }
-    Ok(list)
-}
-
-pub fn is_bad_counter(lines: &[Line], run: &[u8], copies: &[bool], k: usize) -> bool {
-    let j = predecessor(lines, run, k);
-    if j == k || pid(run, k) == 8191 {
-        return false;
-    }
-    let before = at(run, j, 3) % 16;
-    let here = at(run, k, 3) % 16;
-    if has_payload(run, k) {
-        here != (before + 1) % 16 && !flag(copies, k)
-    } else {
-        here != before
+    // Whether the watches see it.
+    pub fn is_observed(&self) -> bool {
+        self.form.is_ok() && pid(&self.packet) != NULL && !self.copy
     }
 }
 
-// Whether the watches see a packet.
-pub fn is_observed(lines: &[Line], run: &[u8], copies: &[bool], k: usize) -> bool {
-    form(lines, run, k) == 0 && pid(run, k) != 8191 && !flag(copies, k)
+// The last sound packet of the same PID.
+fn predecessor<'a>(before: &'a [Seen], packet: &Packet) -> Option<&'a Seen> {
+    before.iter().rev().find(|seen| seen.form.is_ok() && pid(&seen.packet) == pid(packet))
 }
 
-// Rules 26 and 27 between two clock values.
-fn clock_rule(rate: u64, ticks: u64, places: u64) -> u64 {
-    if ticks > 2_700_000 || places < 1 || places > 10_000 {
-        return 26;
-    }
-    let unit = 2_700_000_000_000i128;
-    let d = 188 * i128::from(places);
-    let r = i128::from(rate.min(10_000_000));
-    let t = i128::from(ticks);
-    if (d - 1) * unit <= r * (100_003 * t + 2_700_000)
-        && r * 99_997 * t <= (d + 1) * unit + r * 2_700_000
-    {
-        0
-    } else {
-        27
-    }
-}
-
-pub fn clock_finding(lines: &[Line], rate: u64, run: &[u8], copies: &[bool], k: usize) -> u64 {
-    if kind(lines, pid(run, k)) != 2 || !has_clock(run, k) {
-        return 0;
-    }
-    let mut last = k;
-    for j in 0..k {
-        if is_observed(lines, run, copies, j) && pid(run, j) == pid(run, k) && has_clock(run, j) {
-            last = j;
-        }
-    }
-    if last == k {
-        return 0;
-    }
-    let values = 2_576_980_377_600u64;
-    let ticks = (clock(run, k) % values)
-        .wrapping_add(values)
-        .wrapping_sub(clock(run, last) % values)
-        % values;
-    clock_rule(rate, ticks, k.saturating_sub(last) as u64)
-}
-
-// Byte i of the payload of packet k, and whether there is one.
-pub fn payload(run: &[u8], k: usize, i: usize) -> u64 {
-    at(run, k, payload_place(run, k).saturating_add(i))
-}
-
-pub fn payload_length(run: &[u8], k: usize) -> usize {
-    188usize.saturating_sub(payload_place(run, k))
-}
-
-fn is_bad_stamp(run: &[u8], k: usize, i: usize, prefix: u64) -> bool {
-    payload(run, k, i) / 16 != prefix
-        || payload(run, k, i) % 2 != 1
-        || payload(run, k, i.saturating_add(2)) % 2 != 1
-        || payload(run, k, i.saturating_add(4)) % 2 != 1
-}
-
-// Whether a PES start breaks rule 30.
-pub fn is_bad_header(run: &[u8], k: usize) -> bool {
-    let id = payload(run, k, 3);
-    let wanted = match payload(run, k, 7) / 64 {
-        0 => 0,
-        2 => 5,
-        3 => 10,
-        _ => return true,
+// The rule of the continuity counter.
+pub fn continuity(before: &[Seen], here: &Seen) -> Result<(), Rule> {
+    let packet = &here.packet;
+    let Some(last) = predecessor(before, packet) else {
+        return Ok(());
     };
-    payload(run, k, 0) != 0
-        || payload(run, k, 1) != 0
-        || payload(run, k, 2) != 1
-        || id != 0xBD && (id < 0xC0 || id > 0xEF)
-        || payload(run, k, 6) / 64 != 2
-        || payload(run, k, 7) & 0x20 != 0
-        || payload(run, k, 8) < wanted
-        || (payload_length(run, k) as u64) < 9 + wanted
-        || wanted == 5 && is_bad_stamp(run, k, 9, 2)
-        || wanted == 10 && (is_bad_stamp(run, k, 9, 3) || is_bad_stamp(run, k, 14, 1))
+    let expected = if has_payload(packet) {
+        last.packet[3].wrapping_add(1)
+    } else {
+        last.packet[3]
+    };
+    if pid(packet) == NULL || here.copy || packet[3] % 16 == expected % 16 {
+        Ok(())
+    } else {
+        Err(Rule::Continuity)
+    }
 }
 
-pub fn starts_pes(lines: &[Line], run: &[u8], k: usize) -> bool {
-    let kind = kind(lines, pid(run, k));
-    (kind == 0 || kind == 2) && starts(run, k) && has_payload(run, k)
+// The rules between two clock values, so many ticks and packets apart.
+fn pace(rate: u32, ticks: u64, places: usize) -> Result<(), Rule> {
+    if ticks > 2_700_000 || places > 10_000 {
+        return Err(Rule::ClockGap);
+    }
+    let unit = 2_700_000_000_000;
+    let distance = 188 * places as i128;
+    let rate = i128::from(rate);
+    let ticks = i128::from(ticks);
+    if (distance - 1) * unit <= rate * (100_003 * ticks + 2_700_000)
+        && rate * 99_997 * ticks <= (distance + 1) * unit + rate * 2_700_000
+    {
+        Ok(())
+    } else {
+        Err(Rule::ClockRate)
+    }
+}
+
+// The rules of a clock value against the last one of its PID.
+pub fn clock_rules(rate: u32, before: &[Seen], here: &Seen) -> Result<(), Rule> {
+    let packet = &here.packet;
+    if !has_clock(packet) {
+        return Ok(());
+    }
+    let last = before.iter().rev().zip(1..).find(|(seen, _)| {
+        seen.is_observed() && pid(&seen.packet) == pid(packet) && has_clock(&seen.packet)
+    });
+    let Some((last, places)) = last else {
+        return Ok(());
+    };
+    let ticks = (clock(packet) + CLOCK_VALUES - clock(&last.packet)) % CLOCK_VALUES;
+    pace(rate, ticks, places)
+}
+
+// The payload of a packet in which a PES packet begins.
+pub fn pes_start<'a>(entries: &[Entry], packet: &'a Packet) -> Option<&'a [u8]> {
+    match kind(entries, pid(packet)) {
+        Some(Kind::Pes | Kind::Clock) if starts(packet) && has_payload(packet) => {
+            Some(payload(packet))
+        }
+        _ => None,
+    }
+}
+
+fn is_sound_stamp(prefix: u8, [a, _, c, _, e]: &[u8; 5]) -> bool {
+    a >> 4 == prefix && a & c & e & 1 == 1
+}
+
+// How many time stamps follow a PES header's first nine bytes.
+pub fn stamp_count(payload: &[u8]) -> Result<usize, Rule> {
+    let [0, 0, 1, id, _, _, marks, flags, length, rest @ ..] = payload else {
+        return Err(Rule::Stamps);
+    };
+    let (least, prefixes): (u8, &[u8]) = match flags >> 6 {
+        0 => (0, &[]),
+        2 => (5, &[2]),
+        3 => (10, &[3, 1]),
+        _ => return Err(Rule::Stamps),
+    };
+    let (stamps, _) = rest.as_chunks::<5>();
+    if (*id == 0xBD || (0xC0..=0xEF).contains(id))
+        && marks >> 6 == 2
+        && flags & 0x20 == 0
+        && *length >= least
+        && stamps.len() >= prefixes.len()
+        && prefixes
+            .iter()
+            .zip(stamps)
+            .all(|(prefix, stamp)| is_sound_stamp(*prefix, stamp))
+    {
+        Ok(prefixes.len())
+    } else {
+        Err(Rule::Stamps)
+    }
 }

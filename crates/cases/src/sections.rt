@@ -1,35 +1,49 @@
 // The sections of a PID in the further implementation: all its packets are read anew up to the one that is asked about.
-ghost use Rattle.std.specs.Prelude.{◌<◌};
+use crate::other::{Packet, Seen, has_payload, payload, pid, starts};
+use model::rule::Rule;
+use std::alloc::{AllocFailed, Global};
 
-use crate::other::{Line, has_payload, is_observed, payload, payload_length, pid, starts};
-use std::alloc::{AllocError, Global};
-
-// How a PID is read: whether it was started, the bytes of the open section, and the rule that was broken, or 0.
+// Why a packet is not passed.
 #[derive(Drop)]
-struct State {
-    started: bool,
-    open: bool,
-    bytes: Vec<u8>,
-    broken: u64,
+pub enum Stop {
+    Broken(Rule),
+    OutOfMemory,
 }
 
-fn byte(bytes: &[u8], i: usize) -> u64
-    ensures { result < 256 }
-{
-    match bytes.get(i) {
-        Some(byte) => u64::from(*byte),
-        None => 0,
+impl From<Rule> for Stop {
+    fn from(rule: Rule) -> Stop {
+        Stop::Broken(rule)
     }
 }
 
+impl<T: Drop> From<AllocFailed<T>> for Stop {
+    fn from(_error: AllocFailed<T>) -> Stop {
+        Stop::OutOfMemory
+    }
+}
+
+// How far the sections of a PID were read.
+#[derive(Drop)]
+enum State {
+    // no packet with the start flag has come
+    Waiting,
+    // the bytes of the open section
+    Inside(Vec<u8>),
+    // a section has ended
+    Ended,
+    // stuffing has followed
+    Stuffed,
+}
+
 // CRC_32, bit by bit.
-pub fn crc(bytes: &[u8]) -> u64 {
-    let mut sum = 0xFFFF_FFFFu64;
+pub fn crc(bytes: &[u8]) -> u32 {
+    let mut sum = u32::MAX;
     for byte in bytes {
-        for bit in 0..8u32 {
-            let top = (sum / 0x8000_0000 % 2 + u64::from(*byte) / 2u64.pow(7 - bit)) % 2;
-            sum = sum.wrapping_mul(2) % 0x1_0000_0000;
-            if top == 1 {
+        sum ^= u32::from(*byte) << 24;
+        for _ in 0..8u8 {
+            let top = sum & 0x8000_0000 != 0;
+            sum <<= 1;
+            if top {
                 sum ^= 0x04C1_1DB7;
             }
         }
@@ -37,123 +51,104 @@ pub fn crc(bytes: &[u8]) -> u64 {
     sum
 }
 
+fn section_length(high: u8, low: u8) -> u16 {
+    u16::from_be_bytes([high % 16, low])
+}
+
 // One more byte of the open section.
-fn push(state: &mut State, b: u64) -> Result<(), AllocError> {
-    state.bytes.push((b % 256) as u8)?;
-    let length = byte(state.bytes.as_slice(), 1) % 16 * 256 + byte(state.bytes.as_slice(), 2);
-    let count = state.bytes.len() as u64;
-    if count == 1 && b == 255
-        || count == 2 && b < 128
-        || count == 3 && (length < 9 || length > 1021)
-    {
-        state.broken = 28;
-    } else if count > 3 && count == 3 + length {
-        if crc(state.bytes.as_slice()) != 0 {
-            state.broken = 29;
+fn longer(mut section: Vec<u8>, byte: u8) -> Result<State, Stop> {
+    section.push(byte)?;
+    match section.as_slice() {
+        [255] | [_, 0..=127] => Err(Rule::Sections.into()),
+        [_, high, low] if !(9..=1021).contains(&section_length(*high, *low)) => {
+            Err(Rule::Sections.into())
         }
-        state.open = false;
-        state.bytes.clear();
-    }
-    Ok(())
-}
-
-// The bytes of packet k from place a to place e: of the open section, and then, where `more`, of further ones.
-fn read(
-    state: &mut State,
-    run: &[u8],
-    k: usize,
-    a: usize,
-    e: usize,
-    more: bool,
-) -> Result<(), AllocError> {
-    let mut filling = false;
-    for i in a..e {
-        let b = payload(run, k, i);
-        if state.broken != 0 {
-            return Ok(());
-        }
-        if state.open {
-            push(state, b)?;
-        } else if b == 255 {
-            filling = true;
-        } else if more && !filling {
-            state.open = true;
-            push(state, b)?;
-        } else {
-            state.broken = 28;
-        }
-    }
-    Ok(())
-}
-
-// A packet with the start flag.
-fn start(state: &mut State, run: &[u8], k: usize) -> Result<(), AllocError> {
-    let pointer = payload(run, k, 0) as usize;
-    let first = pointer.saturating_add(1);
-    if first >= payload_length(run, k) {
-        state.broken = 28;
-        return Ok(());
-    }
-    if state.started {
-        for i in 1..first {
-            if state.broken == 0 {
-                if state.open {
-                    push(state, payload(run, k, i))?;
-                } else {
-                    state.broken = 28;
-                }
+        [_, high, low, rest @ ..] if rest.len() == usize::from(section_length(*high, *low)) => {
+            if crc(section.as_slice()) == 0 {
+                Ok(State::Ended)
+            } else {
+                Err(Rule::Crc.into())
             }
         }
-        if state.broken == 0 && state.open {
-            state.broken = 28;
-        }
+        _ => Ok(State::Inside(section)),
     }
-    state.started = true;
-    state.bytes.clear();
-    state.open = true;
-    read(state, run, k, first, payload_length(run, k), true)
 }
 
-fn follow(state: &mut State, run: &[u8], k: usize) -> Result<(), AllocError> {
-    if starts(run, k) {
-        return start(state, run, k);
-    }
-    if !state.started {
-        return Ok(());
-    }
-    if !state.open {
-        state.broken = 28;
-        return Ok(());
-    }
-    read(state, run, k, 0, payload_length(run, k), false)
-}
-
-// The rule that packet k is the first of its PID to break, or 0.
-pub fn sections_finding(
-    heap: Global,
-    lines: &[Line],
-    run: &[u8],
-    copies: &[bool],
-    k: usize,
-) -> Result<u64, AllocError> {
-    let mut state = State {
-        started: false,
-        open: false,
-        bytes: Vec::new(heap),
-        broken: 0,
-    };
-    for j in 0..k {
-        if state.broken == 0
-            && pid(run, j) == pid(run, k)
-            && has_payload(run, j)
-            && is_observed(lines, run, copies, j)
-        {
-            follow(&mut state, run, j)?;
+impl State {
+    // One more byte: of the open section, else of the next one where `more` says so, else of stuffing.
+    fn push(self, heap: Global, byte: u8, more: bool) -> Result<State, Stop> {
+        match self {
+            State::Inside(section) => longer(section, byte),
+            _ if byte == 255 => Ok(State::Stuffed),
+            State::Ended if more => longer(Vec::new(heap), byte),
+            _ => Err(Rule::Sections.into()),
         }
     }
-    if state.broken != 0 || !has_payload(run, k) {
-        return Ok(0);
+
+    fn read(self, heap: Global, bytes: &[u8], more: bool) -> Result<State, Stop> {
+        let mut state = self;
+        for byte in bytes {
+            state = state.push(heap, *byte, more)?;
+        }
+        Ok(state)
     }
-    follow(&mut state, run, k)?;
-    Ok(state.broken)
+
+    // The bytes up to the pointer have to end the open section.
+    fn close(self, bytes: &[u8]) -> Result<(), Stop> {
+        let mut state = self;
+        for byte in bytes {
+            let State::Inside(section) = state else {
+                return Err(Rule::Sections.into());
+            };
+            state = longer(section, *byte)?;
+        }
+        match state {
+            State::Inside(_) => Err(Rule::Sections.into()),
+            _ => Ok(()),
+        }
+    }
+
+    // A payload with the start flag: the pointer, the end of the open section, and the sections that begin behind it.
+    fn start(self, heap: Global, payload: &[u8]) -> Result<State, Stop> {
+        let Some((pointer, rest)) = payload.split_first() else {
+            return Err(Rule::Sections.into());
+        };
+        let Some((end, begin @ [_, ..])) = rest.split_at_checked(usize::from(*pointer)) else {
+            return Err(Rule::Sections.into());
+        };
+        match self {
+            State::Waiting => {}
+            open => open.close(end)?,
+        }
+        State::Inside(Vec::new(heap)).read(heap, begin, true)
+    }
+
+    fn follow(self, heap: Global, packet: &Packet) -> Result<State, Stop> {
+        if starts(packet) {
+            return self.start(heap, payload(packet));
+        }
+        match self {
+            State::Waiting => Ok(State::Waiting),
+            open @ State::Inside(_) => open.read(heap, payload(packet), false),
+            _ => Err(Rule::Sections.into()),
+        }
+    }
+}
+
+// The rule of sections that a packet is the first of its PID to break.
+pub fn sections(heap: Global, before: &[Seen], here: &Packet) -> Result<(), Stop> {
+    let mut state = State::Waiting;
+    for seen in before.iter().filter(|seen| {
+        seen.is_observed() && pid(&seen.packet) == pid(here) && has_payload(&seen.packet)
+    }) {
+        state = match state.follow(heap, &seen.packet) {
+            Ok(next) => next,
+            Err(Stop::Broken(_)) => return Ok(()),
+            Err(stop) => return Err(stop),
+        };
+    }
+    if has_payload(here) {
+        state.follow(heap, here)?;
+    }
+    Ok(())
 }

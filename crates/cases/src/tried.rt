@@ -1,133 +1,103 @@
 // A reel through the library and through the further implementation.
-use crate::other::{Finding, Line, at};
-use crate::verdict2::{first_breach, two_rounds};
+use crate::other::{CLOCK_VALUES, Packet};
+use crate::verdict2::Checker;
 use model::entry::{Entry, Kind};
+use model::refusal::Refusal;
 use model::sheet::Sheet;
 use reel::memory::Memory;
 use reel::reel::Reel;
-use report::numbers::rule_number;
 use report::report::House;
 use std::alloc::{AllocError, Global};
+use std::fmt;
 use verdict::check::check;
 use verdict::rounds::Rounds;
-use verdict::verdict::Verdict;
+use verdict::verdict::{Breach, Verdict};
 
-// What became of a reel: the library's verdict, or none where the reel or the sheet is refused, and whether the further
-// implementation says the same of it and of two rounds of it, and two rounds of an approved one are approved again.
+// The one PID of each reel.
+const PID: u16 = 256;
+
+// The byte rate of each reel.
+const RATE: u32 = 188_000;
+
+// What became of a reel: the library's verdict or refusal, and whether the further implementation says the same of it and
+// of two rounds of it, and two rounds of an approved one are approved again.
 #[derive(Clone, Copy)]
 pub struct Tried {
-    pub verdict: Option<Verdict>,
+    pub verdict: Result<Verdict, Refusal>,
     pub agree: bool,
 }
 
-fn kind_of(kind: u64) -> Kind {
-    match kind {
-        0 => Kind::Pes,
-        1 => Kind::Sections,
-        _ => Kind::Clock,
-    }
-}
-
-fn same(verdict: Verdict, found: Option<Finding>) -> bool {
-    match (verdict, found) {
-        (Verdict::Approved, None) => true,
-        (
-            Verdict::Breach {
-                round,
-                packet,
-                rule,
-            },
-            Some(finding),
-        ) => {
-            round as usize == finding.round
-                && packet == finding.packet
-                && u64::from(rule_number(rule)) == finding.rule
+impl fmt::Display for Tried {
+    fn fmt<W: fmt::Write>(&self, f: &mut fmt::Formatter<W>) -> fmt::Result {
+        match self.verdict {
+            Ok(Ok(())) => write!(f, "APPROVED")?,
+            Ok(
+                Err(
+                    Breach {
+                        round,
+                        packet,
+                        rule,
+                    },
+                ),
+            ) => write!(f, "BREACH {round} {packet} {}", u32::from(rule))?,
+            Err(refusal) => write!(f, "REFUSED {}", u64::from(refusal))?,
         }
-        _ => false,
+        write!(f, ", {}", if self.agree { "agreed" } else { "DIFFERS" })
     }
 }
 
-// Whether packet k of a reel is that of a run of bytes.
-fn holds_at<R: Reel>(reel: &mut R, run: &[u8], k: usize) -> bool {
-    let mut packet = [0u8; 188];
-    if reel.fetch(k, &mut packet).is_err() {
-        return false;
-    }
-    for (i, byte) in packet.iter().enumerate() {
-        if u64::from(*byte) != at(run, k, i) {
-            return false;
-        }
-    }
-    true
+// Whether a reel holds exactly these packets.
+fn holds<R: Reel>(reel: &mut R, run: &[Packet]) -> bool {
+    reel.count() == run.len()
+        && run.iter().enumerate().all(|(place, packet)| {
+            let mut buffer = [0u8; 188];
+            reel.fetch(place, &mut buffer).is_ok() && buffer == *packet
+        })
 }
 
-// Whether a reel holds exactly these bytes.
-fn holds<R: Reel>(reel: &mut R, run: &[u8]) -> bool {
-    for k in 0..run.len() / 188 {
-        if !holds_at(reel, run, k) {
-            return false;
-        }
+// Whether two rounds, as a reel of its own with twice the round length, are approved.
+fn is_pile_approved<R: Reel>(rounds: &mut R, entries: &[Entry], round: u64) -> bool {
+    match Sheet::new(entries, RATE, round % CLOCK_VALUES * 2 % CLOCK_VALUES) {
+        Ok(sheet) => check::<R, House>(rounds, &sheet).is_ok(),
+        Err(_) => false,
     }
-    reel.count() == run.len() / 188
 }
 
-// Whether two rounds of an approved reel, as a reel of its own with twice the round length, are approved.
-fn is_pile_right<R: Reel>(
-    rounds: &mut R,
-    entries: &[Entry],
-    rate: u32,
-    round: u64,
-    verdict: Verdict,
-) -> bool {
-    if let Verdict::Breach { .. } = verdict {
-        return true;
-    }
-    let Ok(sheet) = Sheet::new(entries, rate, round.wrapping_mul(2) % 2_576_980_377_600) else {
-        return false;
+// Tries a reel of one PID of a kind, with this round length.
+pub fn try_reel(heap: Global, kind: Kind, round: u64, reel: &[u8]) -> Result<Tried, AllocError> {
+    let entries = [Entry { pid: PID, kind }];
+    let (packets, rest) = reel.as_chunks::<188>();
+    let refused = |refusal: Refusal| Tried {
+        verdict: Err(refusal),
+        agree: refusal == Refusal::Count && (packets.is_empty() || !rest.is_empty()),
     };
-    match check::<R, House>(rounds, &sheet) {
-        Verdict::Approved => true,
-        Verdict::Breach { .. } => false,
-    }
-}
-
-pub fn try_reel(
-    heap: Global,
-    line: Line,
-    rate: u32,
-    round: u64,
-    reel: &[u8],
-) -> Result<Tried, AllocError> {
-    let entries = [Entry {
-        pid: (line.pid % 65_536) as u16,
-        kind: kind_of(line.kind),
-    }];
-    let lines = [line];
-    let refused = Tried {
-        verdict: None,
-        agree: reel.len() % 188 != 0 || reel.is_empty(),
-    };
-    let Ok(sheet) = Sheet::new(&entries, rate, round) else {
-        return Ok(refused);
+    let sheet = match Sheet::new(&entries, RATE, round) {
+        Ok(sheet) => sheet,
+        Err(refusal) => return Ok(refused(refusal)),
     };
     let mut memory = match Memory::new(reel.to_vec(heap)?) {
         Ok(memory) => memory,
-        Err((_, _bytes)) => return Ok(refused),
+        Err((refusal, _)) => return Ok(refused(refusal)),
     };
     let verdict = check::<Memory<Vec<u8>>, House>(&mut memory, &sheet);
-    let found = first_breach(heap, &lines, u64::from(rate), round, reel)?;
-    let run = two_rounds(heap, &lines, round, reel)?;
+    let checker = Checker {
+        heap,
+        entries: &entries,
+        rate: RATE,
+        round,
+    };
+    let found = checker.check(packets)?;
+    let run = checker.two_rounds(packets)?;
     let agree = match Rounds::new(memory, sheet, 2) {
-        Ok(rounds) => {
-            let mut rounds = rounds;
+        Ok(mut rounds) => {
             holds(&mut rounds, run.as_slice())
-                && same(verdict, found)
-                && is_pile_right(&mut rounds, &entries, rate, round, verdict)
+                && verdict == found
+                && (verdict.is_err() || is_pile_approved(&mut rounds, &entries, round))
         }
-        Err((_, _memory)) => false,
+        Err(_) => false,
     };
     Ok(Tried {
-        verdict: Some(verdict),
+        verdict: Ok(verdict),
         agree,
     })
 }

@@ -1,190 +1,155 @@
 // The check and the restamping of the further implementation.
-use crate::other::*;
-use crate::sections::sections_finding;
+use crate::other::{
+    CLOCK_VALUES, NULL, Packet, STAMP_VALUES, Seen, clock, clock_rules, continuity, has_clock,
+    has_payload, kind, payload_mut, pes_start, pid, stamp_count,
+};
+use crate::sections::{Stop, sections};
+use model::entry::{Entry, Kind};
+use model::rule::Rule;
 use std::alloc::{AllocError, Global};
+use verdict::verdict::{Breach, Verdict};
 
-// Sets byte i of packet k.
-fn put(run: &mut [u8], k: usize, i: usize, value: u64) {
-    let place = k.saturating_mul(188).saturating_add(i);
-    if place < run.len() {
-        run[place] = (value % 256) as u8;
-    }
+// A time stamp, moved on by some ticks of 90 kHz.
+fn moved_stamp([a, b, c, d, e]: [u8; 5], ticks: u64) -> [u8; 5] {
+    let high = u64::from(a >> 1 & 7);
+    let middle = u64::from(u16::from_be_bytes([b, c]) >> 1);
+    let low = u64::from(u16::from_be_bytes([d, e]) >> 1);
+    let value = ((high << 30) + (middle << 15) + low + ticks % STAMP_VALUES) % STAMP_VALUES;
+    let high = (value >> 30) as u8;
+    let [b, c] = ((value >> 15 & 0x7FFF) as u16 * 2 + 1).to_be_bytes();
+    let [d, e] = ((value & 0x7FFF) as u16 * 2 + 1).to_be_bytes();
+    [a & 0xF0 | high << 1 | 1, b, c, d, e]
 }
 
-fn stamp(run: &[u8], k: usize, i: usize) -> u64 {
-    let a = at(run, k, i) / 2 % 8;
-    let b = at(run, k, i.saturating_add(1)) * 128 + at(run, k, i.saturating_add(2)) / 2;
-    let c = at(run, k, i.saturating_add(3)) * 128 + at(run, k, i.saturating_add(4)) / 2;
-    (a * 32768 + b) * 32768 + c
-}
-
-fn put_stamp(run: &mut [u8], k: usize, i: usize, value: u64) {
-    let first = at(run, k, i);
-    put(
-        run,
-        k,
-        i,
-        first / 16 * 16 + value / 1_073_741_824 % 8 * 2 + 1,
-    );
-    put(run, k, i.saturating_add(1), value / 4_194_304 % 256);
-    put(run, k, i.saturating_add(2), value / 32_768 % 128 * 2 + 1);
-    put(run, k, i.saturating_add(3), value / 128 % 256);
-    put(run, k, i.saturating_add(4), value % 128 * 2 + 1);
-}
-
-fn put_clock(run: &mut [u8], k: usize, value: u64) {
+// Moves a packet's clock value on by some ticks of 27 MHz.
+fn move_clock(packet: &mut Packet, ticks: u64) {
+    let value = (clock(packet) + ticks % CLOCK_VALUES) % CLOCK_VALUES;
     let base = value / 300;
-    let low = value % 300;
-    put(run, k, 6, base / 33_554_432 % 256);
-    put(run, k, 7, base / 131_072 % 256);
-    put(run, k, 8, base / 512 % 256);
-    put(run, k, 9, base / 2 % 256);
-    let kept = at(run, k, 10) / 2 % 64;
-    put(run, k, 10, base % 2 * 128 + kept * 2 + low / 256);
-    put(run, k, 11, low % 256);
-}
-
-// Moves packet k of a run on by so many steps and ticks.
-fn move_on(lines: &[Line], run: &mut [u8], k: usize, steps: u64, ticks: u64) {
-    if form(lines, run, k) != 0 || pid(run, k) == 8191 {
-        return;
-    }
-    if starts_pes(lines, run, k) && !is_bad_header(run, k) {
-        let place = payload_place(run, k);
-        let count = payload(run, k, 7) / 64;
-        let by = ticks / 300 % 8_589_934_592;
-        if count >= 2 {
-            let pts = stamp(run, k, place.saturating_add(9)).wrapping_add(by) % 8_589_934_592;
-            put_stamp(run, k, place.saturating_add(9), pts);
-        }
-        if count == 3 {
-            let dts = stamp(run, k, place.saturating_add(14)).wrapping_add(by) % 8_589_934_592;
-            put_stamp(run, k, place.saturating_add(14), dts);
-        }
-    }
-    if has_clock(run, k) {
-        let value = clock(run, k).wrapping_add(ticks) % 2_576_980_377_600;
-        put_clock(run, k, value);
-    }
-    let fourth = at(run, k, 3);
-    put(
-        run,
-        k,
-        3,
-        fourth / 16 * 16 + (fourth % 16 + steps % 16) % 16,
-    );
+    let [high, low] = ((value % 300) as u16).to_be_bytes();
+    let reserved = packet[10] & 0x7E;
+    packet[6..10].copy_from_slice(&((base / 2) as u32).to_be_bytes());
+    packet[10] = (base % 2) as u8 * 128 | reserved | high;
+    packet[11] = low;
 }
 
 // How many packets of a PID count in a reel.
-fn tally(lines: &[Line], reel: &[u8], copies: &[bool], wanted: u64) -> u64 {
-    let mut count = 0u64;
-    for k in 0..reel.len() / 188 {
-        if pid(reel, k) == wanted
-            && form(lines, reel, k) == 0
-            && has_payload(reel, k)
-            && !flag(copies, k)
-        {
-            count = count.wrapping_add(1);
-        }
-    }
-    count
+fn tally(reel: &[Seen], wanted: u16) -> usize {
+    reel.iter()
+        .filter(|seen| {
+            seen.form.is_ok()
+                && pid(&seen.packet) == wanted
+                && has_payload(&seen.packet)
+                && !seen.copy
+        })
+        .count()
 }
 
-// A reel and its first restamped round.
-pub fn two_rounds(
-    heap: Global,
-    lines: &[Line],
-    round: u64,
-    reel: &[u8],
-) -> Result<Vec<u8>, AllocError> {
-    let copied = copies(heap, lines, reel)?;
-    let mut moved = reel.to_vec(heap)?;
-    for k in 0..reel.len() / 188 {
-        let steps = tally(lines, reel, copied.as_slice(), pid(reel, k));
-        move_on(lines, &mut moved, k, steps, round);
-    }
-    let mut run = reel.to_vec(heap)?;
-    run.extend_from_slice(moved.as_slice())?;
-    Ok(run)
-}
-
-fn lacks_clock(lines: &[Line], reel: &[u8]) -> bool {
-    for line in lines {
-        let mut seen = line.kind != 2;
-        for k in 0..reel.len() / 188 {
-            if pid(reel, k) == line.pid && form(lines, reel, k) == 0 && has_clock(reel, k) {
-                seen = true;
-            }
-        }
-        if !seen {
-            return true;
-        }
-    }
-    false
-}
-
-// The rule that packet k of a run breaks first, or 0.
-fn rule_at(
-    heap: Global,
-    lines: &[Line],
-    rate: u64,
-    run: &[u8],
-    copied: &[bool],
-    k: usize,
-) -> Result<u64, AllocError> {
-    let shape = form(lines, run, k);
-    if shape != 0 {
-        return Ok(shape);
-    }
-    if is_bad_counter(lines, run, copied, k) {
-        return Ok(25);
-    }
-    if !is_observed(lines, run, copied, k) {
-        return Ok(0);
-    }
-    let first = clock_finding(lines, rate, run, copied, k);
-    if first != 0 {
-        return Ok(first);
-    }
-    if kind(lines, pid(run, k)) == 1 {
-        return sections_finding(heap, lines, run, copied, k);
-    }
-    Ok(if starts_pes(lines, run, k) && is_bad_header(run, k) {
-        30
-    } else {
-        0
+// Whether a PID of the clock kind carries no clock value.
+fn lacks_clock(entries: &[Entry], reel: &[Seen]) -> bool {
+    entries.iter().any(|entry| {
+        entry.kind == Kind::Clock
+            && !reel.iter().any(|seen| {
+                seen.form.is_ok() && pid(&seen.packet) == entry.pid && has_clock(&seen.packet)
+            })
     })
 }
 
-// The first breach of two rounds.
-pub fn first_breach(
-    heap: Global,
-    lines: &[Line],
-    rate: u64,
-    round: u64,
-    reel: &[u8],
-) -> Result<Option<Finding>, AllocError> {
-    let run = two_rounds(heap, lines, round, reel)?;
-    let copied = copies(heap, lines, run.as_slice())?;
-    let count = reel.len() / 188;
-    for k in 0..run.len() / 188 {
-        if k == count && lacks_clock(lines, reel) {
-            return Ok(Some(Finding {
-                round: 0,
-                packet: count,
-                rule: 31,
-            }));
+// What a reel is checked under, and where memory is taken.
+#[derive(Clone, Copy)]
+pub struct Checker<'a> {
+    pub heap: Global,
+    pub entries: &'a [Entry],
+    pub rate: u32,
+    pub round: u64,
+}
+
+impl Checker<'_> {
+    fn seen(&self, run: &[Packet]) -> Result<Vec<Seen>, AllocError> {
+        let mut seen = Vec::new(self.heap);
+        for packet in run {
+            seen.push(Seen::new(self.entries, seen.as_slice(), *packet))?;
         }
-        let rule = rule_at(heap, lines, rate, run.as_slice(), copied.as_slice(), k)?;
-        if rule != 0 {
-            let first = k < count;
-            let packet = if first { k } else { k.saturating_sub(count) };
-            return Ok(Some(Finding {
-                round: if first { 0 } else { 1 },
-                packet,
-                rule,
-            }));
-        }
+        Ok(seen)
     }
-    Ok(None)
+
+    // A packet of round 0 as it stands in round 1.
+    fn restamped(&self, reel: &[Seen], here: &Seen) -> Packet {
+        let mut packet = here.packet;
+        if here.form.is_err() || pid(&packet) == NULL {
+            return packet;
+        }
+        if let Some(payload) = pes_start(self.entries, &here.packet)
+            && let Ok(count) = stamp_count(payload)
+            && let Some((_, stamps)) = payload_mut(&mut packet).split_at_mut_checked(9)
+        {
+            for stamp in stamps.as_chunks_mut::<5>().0.iter_mut().take(count) {
+                *stamp = moved_stamp(*stamp, self.round / 300);
+            }
+        }
+        if has_clock(&packet) {
+            move_clock(&mut packet, self.round);
+        }
+        let steps = (tally(reel, pid(&packet)) % 16) as u8;
+        packet[3] = packet[3] & 0xF0 | packet[3].wrapping_add(steps) & 0x0F;
+        packet
+    }
+
+    // A reel and its first restamped round.
+    pub fn two_rounds(&self, reel: &[Packet]) -> Result<Vec<Packet>, AllocError> {
+        let seen = self.seen(reel)?;
+        let mut run = reel.to_vec(self.heap)?;
+        for here in &seen {
+            run.push(self.restamped(seen.as_slice(), here))?;
+        }
+        Ok(run)
+    }
+
+    // The rule that a packet of a run breaks first.
+    fn judge(&self, before: &[Seen], here: &Seen) -> Result<(), Stop> {
+        here.form?;
+        continuity(before, here)?;
+        if !here.is_observed() {
+            return Ok(());
+        }
+        clock_rules(self.rate, before, here)?;
+        if kind(self.entries, pid(&here.packet)) == Some(Kind::Sections) {
+            return sections(self.heap, before, &here.packet);
+        }
+        if let Some(payload) = pes_start(self.entries, &here.packet) {
+            stamp_count(payload)?;
+        }
+        Ok(())
+    }
+
+    // The first breach of two rounds.
+    pub fn check(&self, reel: &[Packet]) -> Result<Verdict, AllocError> {
+        let run = self.two_rounds(reel)?;
+        let run = self.seen(run.as_slice())?;
+        for (place, here) in run.iter().enumerate() {
+            let before = &run[..place];
+            let (round, packet) = match place.checked_sub(reel.len()) {
+                None => (0, place),
+                Some(0) if lacks_clock(self.entries, before) => {
+                    return Ok(Err(Breach {
+                        round: 0,
+                        packet: place,
+                        rule: Rule::Unclocked,
+                    }));
+                }
+                Some(packet) => (1, packet),
+            };
+            match self.judge(before, here) {
+                Ok(()) => {}
+                Err(Stop::Broken(rule)) => {
+                    return Ok(Err(Breach {
+                        round,
+                        packet,
+                        rule,
+                    }));
+                }
+                Err(Stop::OutOfMemory) => return Err(AllocError),
+            }
+        }
+        Ok(Ok(()))
+    }
 }

@@ -1,33 +1,34 @@
 -- Numbers and the bytes that write them.
-use Rattle.std.proofs.Common.{◌≡◌, ℕ, zero, suc, ◌+◌, ◌*◌, ◌/◌, ◌%◌, ◌^◌, ◌<◌, ◌≤◌, List, [], ◌∷◌, ◌++◌, length, refl, ap, ◌∙◌, lt_of_lt_of_le, pow-suc, add-one, arith, lit≤, length-append}
-use native.Mathlib.Nat.{pow-le-pow_right}
+use Rattle.std.proofs.Common.{◌≡◌, ℕ, zero, suc, ◌+◌, ◌*◌, ◌/◌, ◌%◌, ◌^◌, ◌<◌, List, [], ◌∷◌, ◌++◌, length, get_or, sym, refl, ap, ◌∙◌, pow-suc, arith}
+use native.Mathlib.Nat.{mul_comm, div-div-eq-div-mul}
+use Rattle.std.specs.Int.{byte_at, bytes_high_first, from_be_bytes, w32, w64}
 use Rattle.std.specs.Int.Digits.{number_from_digits}
 use Rattle.std.proofs.lemmas.Int.Digits.{number_push}
+use Rattle.std.proofs.lemmas.Nat.{be_bytes_4, be_bytes_8}
 use Rattle.model.specs.File.{written}
 
-div_digit : (x d : ℕ) → d < 256 → (x * 256 + d) / 256 ≡ x
-div_digit x d h = omega arith
+byte_more : (k v : ℕ) → byte_at (suc k) v ≡ byte_at k (v / 256)
+byte_more zero v = refl
+byte_more (suc k) v =
+    ap (λ n. v / n % 256) (pow-suc 256 (suc k) ∙ mul_comm (256 ^ suc k) 256)
+    ∙ ap (λ n. n % 256) (sym (div-div-eq-div-mul v 256 (256 ^ suc k)))
 
-mod_digit : (x d : ℕ) → d < 256 → (x * 256 + d) % 256 ≡ d
-mod_digit x d h = omega arith
+high_more : (n v : ℕ) → bytes_high_first (suc n) v ≡ bytes_high_first n (v / 256) ++ (v % 256 ∷ [])
+high_more zero v = refl
+high_more (suc n) v =
+    ap (λ x. x ∷ bytes_high_first (suc n) v) (byte_more n v) ∙ ap (λ (x : List ℕ). byte_at n (v / 256) ∷ x) (high_more n v)
 
--- one more digit
-pub written_more : (n v d : ℕ) (bs : List ℕ) → d < 256 → written n v ≡ bs → written (n + 1) (v * 256 + d) ≡ bs ++ (d ∷ [])
-written_more n v d bs h e =
-    ap (λ k. written k (v * 256 + d)) (add-one n)
-    ∙ ap (λ x. written n x ++ ((v * 256 + d) % 256 ∷ [])) (div_digit v d h)
-    ∙ ap (λ x. written n v ++ (x ∷ [])) (mod_digit v d h)
-    ∙ ap (λ (x : List ℕ). x ++ (d ∷ [])) e
+-- the bytes of a number, the highest first, are the digits that write it
+pub bytes_written : (n v : ℕ) → bytes_high_first n v ≡ written n v
+bytes_written zero v = refl
+bytes_written (suc n) v = high_more n v ∙ ap (λ (x : List ℕ). x ++ (v % 256 ∷ [])) (bytes_written n (v / 256))
 
--- a digit more is a factor of 256 more
-pub bound_more : (n v d : ℕ) → v < 256 ^ n → d < 256 → v * 256 + d < 256 ^ (n + 1)
-bound_more n v d h k =
-    let e : 256 ^ (n + 1) ≡ 256 ^ n * 256 = ap (λ m. 256 ^ m) (add-one n) ∙ pow-suc 256 n in
-    rw e (omega arith)
+-- a number that was read of bytes is written as the same bytes
+pub written_4 : (bs : List ℕ) (v : ℕ) → length bs ≡ 4 → ((i : ℕ) → get_or bs i 0 < 256) → v ≡ from_be_bytes w32 bs → written 4 v ≡ bs
+written_4 bs v h k e = sym (bytes_written 4 v) ∙ be_bytes_4 bs v h k e
 
--- up to seven digits leave room for one more
-pub bound_seven : (n v : ℕ) → n ≤ 7 → v < 256 ^ n → v < 2 ^ 56
-bound_seven n v h k = lt_of_lt_of_le k (pow-le-pow_right (lit≤ tt) h)
+pub written_8 : (bs : List ℕ) (v : ℕ) → length bs ≡ 8 → ((i : ℕ) → get_or bs i 0 < 256) → v ≡ from_be_bytes w64 bs → written 8 v ≡ bs
+written_8 bs v h k e = sym (bytes_written 8 v) ∙ be_bytes_8 bs v h k e
 
 -- a number of at most n digits is read back from them
 pub number_written : (n v : ℕ) → v < 256 ^ n → number_from_digits 256 (written n v) ≡ v
@@ -37,6 +38,5 @@ number_written (suc n) v h =
     let k : v / 256 < 256 ^ n = omega (arith, e) in
     number_push 256 (written n (v / 256)) (v % 256) ∙ ap (λ x. x * 256 + v % 256) (number_written n (v / 256) k) ∙ omega arith
 
-pub length_written : (n v : ℕ) → length (written n v) ≡ n
-length_written zero v = refl
-length_written (suc n) v = length-append (written n (v / 256)) _ ∙ ap (λ k. k + 1) (length_written n (v / 256)) ∙ add-one n
+pub number_read : (n v : ℕ) (bs : List ℕ) → v < 256 ^ n → written n v ≡ bs → v ≡ number_from_digits 256 bs
+number_read n v bs h e = sym (number_written n v h) ∙ ap (number_from_digits 256) e

@@ -1,46 +1,11 @@
 -- Entries and the bytes that write them.
-use Rattle.std.proofs.Common.{◌≡◌, ℕ, zero, suc, ◌+◌, ◌*◌, ◌≤◌, true, false, ◌&&◌, leb, List, [], ◌∷◌, ◌++◌, length, take, Some, None, sym, refl, ap, ◌∙◌, inl, inr, append_assoc, append-nil, add-one, arith, take-add}
-use Rattle.std.proofs.lemmas.Bool.{cases_Bool, cond-true, cond-false, leb-true, and_left}
+use Rattle.std.proofs.Common.{◌≡◌, ℕ, zero, suc, ◌+◌, ◌*◌, ◌<◌, get_or, drop, drop-drop, true, false, ◌&&◌, List, [], ◌∷◌, ◌++◌, length, take, Some, None, sym, refl, ap, ◌∙◌, inl, inr, append_assoc, append-nil, add-one, arith, take-add}
+use Rattle.std.proofs.lemmas.Bool.{cases_Bool, cond-true, cond-false, and_left}
+use Rattle.std.specs.Simd.{first_chunks}
 use Rattle.model.specs.declared.entry.Entry.{Entry}
-use Rattle.model.specs.declared.entry.Kind.{Kind}
-use Rattle.model.specs.Entries.{kind_number}
-use Rattle.model.specs.Packet.{Bytes, byte}
-use Rattle.model.specs.File.{kind_at, entry_of, is_entry, entry_part, entries_in, are_entries, entry_bytes, entries_bytes}
-use Rattle.file.specs.Entries.{kind_in, entry_in}
-
--- a number up to 2 is that of its kind
-pub kind_back : (n : ℕ) → n ≤ 2 → kind_number (kind_at n) ≡ n
-kind_back zero h = refl
-kind_back (suc zero) h = refl
-kind_back (suc (suc zero)) h = refl
-kind_back (suc (suc (suc n))) h = absurd (omega arith)
-
--- what a kind that was read says of its number
-pub record Read (n : ℕ) (k : Kind) : Type 0 where
-  pub small : n ≤ 2
-  pub is : k ≡ kind_at n
-  pub back : kind_number k ≡ n
-
-pub kind_read : (n : ℕ) (k : Kind) → Some k ≡ kind_in n → Read n k
-kind_read n k e = elim (cases_Bool (leb n 2)) [
-  | inl t ↦
-      let s : Some k ≡ Some (kind_at n) = e ∙ cond-true (leb n 2) _ _ t in
-      let i : k ≡ kind_at n = cc in
-      let h = leb-true n 2 t in
-      record { small = h; is = i; back = ap kind_number i ∙ kind_back n h }
-  | inr t ↦
-      let s : Some k ≡ None = e ∙ cond-false (leb n 2) _ _ t in
-      let z : ◌≡◌ {A = ℕ} 0 1 = cc in absurd (omega arith)
-]
-
--- four bytes, the last two apart
-pub four : (b : Bytes) → length b ≡ 4 → take 2 b ++ (byte b 2 ∷ byte b 3 ∷ []) ≡ b
-four [] h = absurd (omega arith)
-four (p ∷ []) h = absurd (omega arith)
-four (p ∷ q ∷ []) h = absurd (omega arith)
-four (p ∷ q ∷ r ∷ []) h = absurd (omega arith)
-four (p ∷ q ∷ r ∷ s ∷ []) h = refl
-four (p ∷ q ∷ r ∷ s ∷ t ∷ u) h = absurd (omega arith)
+use Rattle.model.specs.Packet.{Bytes}
+use Rattle.model.specs.File.{entry_of, is_entry, entry_part, entries_in, are_entries, entry_bytes, entries_bytes}
+use Rattle.file.specs.Entries.{entry_in}
 
 -- one entry that is none among more
 pub none_among : (bs : Bytes) (m n : ℕ) → are_entries (m + 1) bs ≡ false → are_entries (m + 1 + n) bs ≡ false
@@ -87,3 +52,11 @@ entry_none b h = elim (cases_Bool (is_entry b)) [
 pub bytes_length : (es : List Entry) → length (entries_bytes es) ≡ 4 * length es
 bytes_length [] = refl
 bytes_length (e ∷ es) = let h = bytes_length es in omega arith
+
+-- the bytes of one entry among all that are cut in fours
+pub chunk_is : (n : ℕ) (bs d : Bytes) (i : ℕ) → i < n → get_or (first_chunks 4 n bs) i d ≡ entry_part i bs
+chunk_is zero bs d i h = absurd (omega arith)
+chunk_is (suc n) bs d zero h = refl
+chunk_is (suc n) bs d (suc i) h =
+    chunk_is n (drop 4 bs) d i (omega arith)
+    ∙ ap (take 4) (drop-drop (4 * i) 4 bs ∙ (let e : 4 + 4 * i ≡ 4 * suc i = omega arith in ap (λ k. drop k bs) e))

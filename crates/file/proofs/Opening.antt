@@ -1,17 +1,13 @@
 -- Reading a file, refusal by refusal.
-use Rattle.std.proofs.Common.{◌≡◌, ℕ, zero, suc, ◌+◌, ◌-◌, ◌*◌, ◌/◌, ◌%◌, ◌≤◌, true, false, not, ◌&&◌, eqb, ltb, leb, List, [], ◌∷◌, ◌++◌, length, take, drop, Some, None, Ok, Err, Option, Result, sym, refl, ap, ◌∙◌, inl, inr, arith, length-append, length-drop, take-append-drop, length-take, take-take}
-use Rattle.std.proofs.lemmas.Bool.{cases_Bool, cond-true, cond-false, le-leb, or_parts, and_parts, not-false, leb-true, eqb-true, ltb-false}
-use Rattle.model.specs.declared.entry.Entry.{Entry}
-use Rattle.model.specs.declared.refusal.Refusal.{Refusal}
-use Rattle.model.specs.declared.sheet.Sheet.{Sheet}
+use Rattle.std.proofs.Common.{◌≡◌, ℕ, zero, suc, ◌+◌, ◌-◌, ◌*◌, ◌/◌, ◌%◌, ◌≤◌, false, not, ◌&&◌, eqb, ltb, leb, [], ◌∷◌, ◌++◌, length, take, drop, Some, None, Ok, Err, Option, Result, sym, refl, ap, ◌∙◌, inl, inr, arith, length-append, length-drop, take-append-drop, length-take, take-take}
+use Rattle.std.proofs.lemmas.Bool.{cases_Bool, cond-true, cond-false, or_parts, and_parts, not-false, leb-true, eqb-true, ltb-false}
 use Rattle.model.specs.Entries.{lawful}
 use Rattle.model.specs.Packet.{Bytes}
-use Rattle.model.specs.Refusals.{outcome}
-use Rattle.model.specs.Sheets.{SheetText, text_of, bad_timing, bad_entries, made}
+use Rattle.model.specs.Sheets.{SheetText, bad_timing}
 use Rattle.model.specs.Tests.{first_broken, unless}
 use Rattle.model.specs.File.{FileText, last, entries_in, are_entries, entries_bytes, opened, no_trailer, bad_distance, bad_count, rate_in, round_in, count_in, distance_in, bad_number, tail, tail_length, trailer_bytes}
 use Rattle.file.proofs.Parts.{last_last}
-use Rattle.file.specs.Reading.{sheet_in, SameEntries}
+use Rattle.file.specs.Reading.{sheet_in}
 use Rattle.file.specs.Trailers.{trailer_in, trailer_of, bytes_of}
 use Rattle.file.specs.declared.trailer.Trailer.{Trailer}
 
@@ -23,17 +19,6 @@ unless_ok (Some n) a b h = let z : ◌≡◌ {A = ℕ} 0 1 = cc in absurd (omega
 pub length_entries : (n : ℕ) (bs : Bytes) → length (entries_in n bs) ≡ n
 length_entries zero bs = refl
 length_entries (suc n) bs = length-append (entries_in n bs) _ ∙ ap (λ x. x + 1) (length_entries n bs) ∙ omega arith
-
--- a sheet of entries that were read
-pub made_in : (n : ℕ) (bs : Bytes) (es : List Entry) (rate round : ℕ) → n ≤ 16 → are_entries n bs ≡ true → es ≡ entries_in n bs → made es rate round ≡ sheet_in n bs rate round
-made_in n bs es rate round h t e =
-    ap (λ (x : List Entry). made x rate round) e
-    ∙ ap (λ b. unless (first_broken ((4, not (b && lawful (entries_in n bs))) ∷ (5, bad_timing rate round) ∷ [])) (record { entries = entries_in n bs; rate = rate; round = round }))
-    (ap (λ k. leb k 16) (length_entries n bs) ∙ le-leb n 16 h ∙ sym t)
-
-pub same_entries : (n : ℕ) (bs : Bytes) (es : List Entry) (rate round : ℕ) (r : Result Sheet Refusal) → outcome text_of r ≡ made es rate round → entries_bytes es ≡ take (4 * n) bs → SameEntries n bs r
-same_entries n bs es rate round (Ok s) h e = ap (λ (x : SheetText). entries_bytes x.entries) (unless_ok (first_broken ((4, bad_entries es) ∷ (5, bad_timing rate round) ∷ [])) (text_of s) (record { entries = es; rate = rate; round = round }) h) ∙ e
-same_entries n bs es rate round (Err x) h e = tt
 
 -- a trailer that was read
 pub trailer_read : (f : Bytes) (t : Trailer) → Some t ≡ trailer_in f → (no_trailer f ≡ false) × (t ≡ trailer_of (last 24 f))
@@ -63,9 +48,6 @@ module _ (f : Bytes) where
 
   abbrev pub bytes : Bytes
   bytes = take (4 * number) (last distance f)
-
-  pub opened_distance : no_trailer f ≡ false → bad_distance (length f) distance ≡ true → Err 2 ≡ opened f
-  opened_distance a b = rw (a, b)
 
   pub opened_sheet : no_trailer f ≡ false → bad_distance (length f) distance ≡ false → bad_count (length f - distance) (count_in (last 24 f)) ≡ false →
       opened f ≡ counted (count_in (last 24 f)) (sheet_in number bytes (rate_in (last 24 f)) (round_in (last 24 f)))

@@ -1,6 +1,6 @@
 -- Packets and a sheet whose tail was written.
-use Rattle.std.proofs.Common.{◌≡◌, ℕ, ◌-◌, ◌*◌, ◌/◌, ◌%◌, Bool, true, false, cond, not, ltb, List, [], ◌∷◌, ◌++◌, length, take, Some, None, Ok, sym, refl, ap, ◌∙◌, arith, length-append}
-use Rattle.std.proofs.lemmas.Bool.{eq-eqb, or_from}
+use Rattle.std.proofs.Common.{◌≡◌, ℕ, ◌≤◌, ◌*◌, ◌/◌, ◌%◌, Bool, true, false, cond, not, ltb, List, [], ◌∷◌, ◌++◌, length, take, Some, None, Ok, sym, refl, ap, ◌∙◌, arith, length-append}
+use Rattle.std.proofs.lemmas.Bool.{eq-eqb, or_from, ltb-false}
 use Rattle.model.specs.Buffers.{laid}
 use Rattle.model.specs.File.{FileText, tail, tail_length, tail_written, bad_number, entries_bytes, opened}
 use Rattle.model.specs.Packet.{Bytes}
@@ -28,24 +28,37 @@ module _ (ps : Bytes) (s : SheetText) (size n room : ℕ) (all : size ≡ length
   told : Ok n ≡ tail_written t room
   told = h ∙ ap (λ k. tail_written (record { sheet = s; count = k / 188 }) room) all
 
+  abbrev wanted : ℕ
+  wanted = tail_length (length s.entries)
+
+  few : bad_number (length ps / 188) ≡ false
+  few = first_holds (bad_number (length ps / 188)) 3 ((7, ltb room wanted) ∷ []) n wanted told
+
   pub accepted : size % 188 ≡ 0 → None ≡ pack_refusal ps
   accepted e =
-      let few = first_holds (bad_number (length ps / 188)) 3 ((7, ltb room (tail_length (length s.entries))) ∷ []) n (tail_length (length s.entries)) told in
       let right : bad_bytes ps ≡ false = or_from _ _ (ap not (eq-eqb _ 0 (ap (λ k. k % 188) (sym all) ∙ e))) few in
       sym (ap (λ b. cond b (Some 3) None) right)
 
+  size_is : n ≡ wanted
+  size_is = unless_ok (first_broken ((3, bad_number (length ps / 188)) ∷ (7, ltb room wanted) ∷ [])) n wanted told
+
   pub tail_size : n ≡ length (tail t)
-  tail_size = unless_ok (first_broken ((3, bad_number (length ps / 188)) ∷ (7, ltb room (tail_length (length s.entries))) ∷ [])) n (tail_length (length s.entries)) told ∙ sym (tail_length_lem t)
+  tail_size = size_is ∙ sym (tail_length_lem t)
+
+  -- what was written fits
+  pub tail_fits : n ≤ room
+  tail_fits =
+      let e : Ok n ≡ unless (first_broken ((7, ltb room wanted) ∷ [])) wanted = told ∙ ap (λ b. unless (first_broken ((3, b) ∷ (7, ltb room wanted) ∷ [])) wanted) few in
+      let h = ltb-false room wanted (first_holds (ltb room wanted) 7 [] n wanted e) in
+      rw size_is h
 
   -- what the buffer then begins with
-  pub tail_written_lem : (b o : Bytes) → o ≡ laid 0 (tail (record { sheet = s; count = size / 188 })) b → take (n - 0) o ≡ tail t
+  pub tail_written_lem : (b o : Bytes) → o ≡ laid 0 (tail (record { sheet = s; count = size / 188 })) b → take n o ≡ tail t
   tail_written_lem b o w =
-      let e : n - 0 ≡ length (tail t) = (let z : n - 0 ≡ n = omega arith in z ∙ tail_size) in
       let v : o ≡ laid 0 (tail t) b = w ∙ ap (λ k. laid 0 (tail (record { sheet = s; count = k / 188 })) b) all in
-      ap (λ k. take k o) e ∙ ap (take (length (tail t))) v ∙ laid_take b (tail t)
+      ap (λ k. take k o) tail_size ∙ ap (take (length (tail t))) v ∙ laid_take b (tail t)
 
-  pub read_packed : (o : Bytes) → size % 188 ≡ 0 → ReadsBack (record { sheet = s; count = size / 188 }) (Ok n) o → opened (ps ++ take (n - 0) o) ≡ Ok t
+  pub read_packed : (o : Bytes) → size % 188 ≡ 0 → ReadsBack (record { sheet = s; count = size / 188 }) (Ok n) o → opened (ps ++ take n o) ≡ Ok t
   read_packed o e back =
-      let z : n - 0 ≡ n = omega arith in
       let l : length ps ≡ 188 * (size / 188) = omega arith in
-      ap (λ k. opened (ps ++ take k o)) z ∙ back ps l ∙ ap (λ k. Ok (record { sheet = s; count = k / 188 })) all
+      back ps l ∙ ap (λ k. Ok (record { sheet = s; count = k / 188 })) all

@@ -1,15 +1,7 @@
 -- The parts of a file.
-use Rattle.std.proofs.Common.{◌≡◌, ℕ, ◌+◌, ◌-◌, ◌≤◌, ◌++◌, length, take, drop, sym, ap, ◌∙◌, arith, length-drop, take-append-drop, length-take, drop-drop}
-use Rattle.std.proofs.lemmas.Slice.{between_to_end}
+use Rattle.std.proofs.Common.{◌≡◌, ℕ, ◌+◌, ◌-◌, ◌≤◌, ◌++◌, length, take, drop, sym, ap, ◌∙◌, arith, take-append-drop, drop-drop}
 use Rattle.model.specs.Packet.{Bytes}
-use Rattle.model.specs.File.{written, mark, last}
-
--- n bytes from place a on
-pub part_length : (t : Bytes) (a n : ℕ) → a + n ≤ length t → length (take n (drop a t)) ≡ n
-part_length t a n h = simp (length-take, length-drop) (omega arith)
-
-pub part_written : (t : Bytes) (a n r : ℕ) → a + n ≤ length t → written (length (take n (drop a t))) r ≡ take n (drop a t) → written n r ≡ take n (drop a t)
-part_written t a n r h e = ap (λ k. written k r) (sym (part_length t a n h)) ∙ e
+use Rattle.model.specs.File.{mark, last}
 
 -- one part, and what comes after it
 cut : (t : Bytes) (a n : ℕ) → take n (drop a t) ++ drop (a + n) t ≡ drop a t
@@ -23,13 +15,6 @@ trailer_parts t a b c d e1 e2 e3 e4 e5 =
     ∙ ap (λ (x : Bytes). take 4 t ++ (take 8 (drop 4 t) ++ x)) (cut t 12 4)
     ∙ ap (λ (x : Bytes). take 4 t ++ x) (cut t 4 8)
     ∙ take-append-drop 4 t)
-
--- the slice from the last 24 bytes on
-pub last_slice : (f : Bytes) (n : ℕ) → take (length f - (length f - n)) (drop (length f - n) f) ≡ last n f
-last_slice f n = between_to_end f (length f - n) (length f) (omega arith)
-
-pub last_length : (f : Bytes) (n : ℕ) → n ≤ length f → length (last n f) ≡ n
-last_length f n h = simp length-drop (omega arith)
 
 -- the last of the last
 pub last_last : (f : Bytes) (m n : ℕ) → n ≤ m → m ≤ length f → drop (m - n) (last m f) ≡ last n f

@@ -3,7 +3,6 @@
 // The reel file: reading it, writing its tail, and making a whole one of packets.
 pub mod contents;
 mod entries;
-mod numbers;
 pub mod packing;
 mod puts;
 pub mod reading;

@@ -7,12 +7,14 @@ use crate::writing::write_tail;
 use model::refusal::Refusal;
 use model::sheet::Sheet;
 use std::alloc::AllocError;
+use std::error::Error;
+use std::fmt;
 
 // The longest tail: a trailer and 16 entries.
-const LONGEST_TAIL: usize = 88;
+const LONGEST_TAIL: usize = 24 + 16 * 4;
 
 // Why packets were not made a file.
-#[derive(Drop)]
+#[derive(Clone, Copy, Debug, PartialEq, Eq)]
 pub enum PackError {
     Refused(Refusal),
     // there is no memory for the tail
@@ -35,6 +37,17 @@ impl From<AllocError> for PackError {
     }
 }
 
+impl fmt::Display for PackError {
+    fn fmt<W: fmt::Write>(&self, f: &mut fmt::Formatter<W>) -> fmt::Result {
+        match self {
+            Self::Refused(refusal) => write!(f, "{refusal}"),
+            Self::Memory => f.write_str("no memory is left for the tail"),
+        }
+    }
+}
+
+impl Error for PackError {}
+
 // Makes a whole reel file of packets, by putting the sheet's tail after them. Where it cannot, the packets stay as they were.
 pub fn pack(packets: &mut Vec<u8>, sheet: &Sheet) -> Result<(), PackError>
     ensures answers { refusal_in result ≡ pack_refusal packets.old.items }
@@ -48,6 +61,6 @@ pub fn pack(packets: &mut Vec<u8>, sheet: &Sheet) -> Result<(), PackError>
     }
     let mut tail = [0u8; LONGEST_TAIL];
     let len = write_tail(sheet, size / 188, &mut tail)?;
-    packets.extend_from_slice(&tail[0..len])?;
+    packets.extend_from_slice(&tail[..len])?;
     Ok(())
 }

@@ -1,41 +1,17 @@
 ghost use Rattle.std.specs.Prelude.{◌≡◌, ◌+◌, ◌*◌, ◌≤◌, length};
 ghost use Rattle.model.specs.Buffers.{laid};
-ghost use Rattle.model.specs.Entries.{kind_number};
-ghost use Rattle.model.specs.File.{written, entry_bytes, entries_bytes};
+ghost use Rattle.model.specs.File.{entry_bytes, entries_bytes};
 ghost use Rattle.file.specs.Trailers.{bytes_of};
 
 use crate::trailer::{MARK, Trailer};
-use model::entry::{Entry, Kind};
+use model::entry::Entry;
 
-// Writes a number in so many bytes, the most significant first.
-fn put_number(buffer: &mut [u8], at: usize, width: usize, value: u64)
-    requires { at + width ≤ length buffer.old }
-    ensures { buffer.new ≡ laid at (written width value) buffer.old }
+// The four bytes that write an entry.
+fn bytes_of_entry(entry: Entry) -> [u8; 4]
+    ensures { result ≡ entry_bytes entry }
 {
-    if width == 0 {
-        return;
-    }
-    put_number(buffer, at, width - 1, value / 256);
-    buffer[at + (width - 1)] = (value % 256) as u8;
-}
-
-fn kind_number(kind: Kind) -> u8
-    ensures { result ≡ kind_number kind }
-{
-    match kind {
-        Kind::Pes => 0,
-        Kind::Sections => 1,
-        Kind::Clock => 2,
-    }
-}
-
-fn put_entry(buffer: &mut [u8], at: usize, entry: Entry)
-    requires { at + 4 ≤ length buffer.old }
-    ensures { buffer.new ≡ laid at (entry_bytes entry) buffer.old }
-{
-    put_number(buffer, at, 2, entry.pid as u64);
-    buffer[at + 2] = kind_number(entry.kind);
-    buffer[at + 3] = 0;
+    let [high, low] = entry.pid.to_be_bytes();
+    [high, low, entry.kind.into(), 0]
 }
 
 // Writes entries at the front of a buffer.
@@ -44,7 +20,7 @@ pub fn put_entries(buffer: &mut [u8], entries: &[Entry])
     ensures { buffer.new ≡ laid 0 (entries_bytes entries.now) buffer.old }
 {
     for (i, entry) in entries.iter().enumerate() {
-        put_entry(buffer, 4 * i, *entry);
+        buffer[4 * i..4 * i + 4].copy_from_slice(&bytes_of_entry(*entry));
     }
 }
 
@@ -52,9 +28,9 @@ pub fn put_trailer(buffer: &mut [u8], at: usize, trailer: Trailer)
     requires { at + 24 ≤ length buffer.old }
     ensures { buffer.new ≡ laid at (bytes_of trailer) buffer.old }
 {
-    put_number(buffer, at, 4, trailer.rate as u64);
-    put_number(buffer, at + 4, 8, trailer.round);
-    put_number(buffer, at + 12, 4, trailer.count as u64);
-    put_number(buffer, at + 16, 4, trailer.distance as u64);
+    buffer[at..at + 4].copy_from_slice(&trailer.rate.to_be_bytes());
+    buffer[at + 4..at + 12].copy_from_slice(&trailer.round.to_be_bytes());
+    buffer[at + 12..at + 16].copy_from_slice(&trailer.count.to_be_bytes());
+    buffer[at + 16..at + 20].copy_from_slice(&trailer.distance.to_be_bytes());
     buffer[at + 20..at + 24].copy_from_slice(&MARK);
 }

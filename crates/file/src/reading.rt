@@ -1,5 +1,5 @@
 ghost use Rattle.std.specs.Prelude.{◌≡◌, ◌/◌, ◌≤◌, length};
-ghost use Rattle.model.specs.File.{opened, bad_distance, bad_count, bad_number};
+ghost use Rattle.model.specs.File.{opened, bad_distance, bad_count};
 ghost use Rattle.model.specs.Refusals.{outcome};
 ghost use Rattle.model.specs.Sheets.{text_of};
 ghost use Rattle.file.specs.Reading.{contents_of, sheet_in, SameEntries, SameTail};
@@ -7,28 +7,15 @@ ghost use Rattle.file.specs.Reading.{contents_of, sheet_in, SameEntries, SameTai
 use crate::contents::Contents;
 use crate::entries::read_entries;
 use crate::trailer::read_trailer;
-use model::entry::{Entry, Kind};
+use model::count::is_bad_number;
 use model::refusal::Refusal;
 use model::sheet::Sheet;
-
-const NO_ENTRY: Entry = Entry {
-    pid: 0,
-    kind: Kind::Pes,
-};
 
 // Whether the distance is not that of 0 to 16 entries, or exceeds the file.
 fn is_bad_distance(size: usize, distance: u32) -> bool
     ensures { result ≡ bad_distance size distance }
 {
-    !(distance >= 24 && (distance - 24) % 4 == 0 && (distance - 24) / 4 <= 16)
-        || size < distance as usize
-}
-
-// Whether a file cannot hold this number of packets.
-pub fn is_bad_number(count: usize) -> bool
-    ensures { result ≡ bad_number count }
-{
-    !(count >= 1 && count <= 1_000_000_000)
+    !(24..=88).contains(&distance) || distance % 4 != 0 || size < distance as usize
 }
 
 // Whether so many bytes are not exactly this number of packets.
@@ -44,11 +31,8 @@ fn read_sheet(bytes: &[u8], rate: u32, round: u64) -> Result<Sheet, Refusal>
     ensures answers { outcome text_of result ≡ sheet_in (length bytes.now / 4) bytes.now rate round }
     ensures again { SameEntries (length bytes.now / 4) bytes.now result }
 {
-    let mut table = [NO_ENTRY; 16];
-    if !read_entries(bytes, &mut table) {
-        return Err(Refusal::Entries);
-    }
-    Sheet::new(&table[0..bytes.len() / 4], rate, round)
+    let table = read_entries(bytes).ok_or(Refusal::Entries)?;
+    Sheet::new(&table[..bytes.len() / 4], rate, round)
 }
 
 // What a reel file says, or why it is none.
@@ -57,9 +41,7 @@ pub fn read(file: &[u8]) -> Result<Contents, Refusal>
     ensures again { SameTail file.now result }
 {
     let len = file.len();
-    let Some(trailer) = read_trailer(file) else {
-        return Err(Refusal::Trailer);
-    };
+    let trailer = read_trailer(file).ok_or(Refusal::Trailer)?;
     if is_bad_distance(len, trailer.distance) {
         return Err(Refusal::Distance);
     }

@@ -5,8 +5,8 @@ ghost use Rattle.model.specs.Sheets.{text_of};
 ghost use Rattle.file.specs.Writing.{buffer_after, ReadsBack};
 
 use crate::puts::{put_entries, put_trailer};
-use crate::reading::is_bad_number;
 use crate::trailer::Trailer;
+use model::count::is_bad_number;
 use model::refusal::Refusal;
 use model::sheet::Sheet;
 

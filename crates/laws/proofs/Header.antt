@@ -15,9 +15,6 @@ like_trans p q r a b = record { b0 = b.b0 ∙ a.b0; b1 = b.b1 ∙ a.b1; b2 = b.b
 pub long_continuity_counter : (p : Bytes) → Long p → (c : ℕ) → Long (set_counter c p)
 long_continuity_counter _ (long b0 b1 b2 b3 b4 b5 b6 b7 b8 b9 b10 b11 r) c = long b0 b1 b2 _ b4 b5 b6 b7 b8 b9 b10 b11 r
 
-long_clock : (p : Bytes) → Long p → (v : ℕ) → Long (set_pcr v p)
-long_clock _ (long b0 b1 b2 b3 b4 b5 b6 b7 b8 b9 b10 b11 r) v = long b0 b1 b2 b3 b4 b5 _ _ _ _ _ _ r
-
 pub like_continuity_counter : (p : Bytes) → Long p → (c : ℕ) → c < 16 → Like p (set_counter c p)
 like_continuity_counter _ (long b0 b1 b2 b3 b4 b5 b6 b7 b8 b9 b10 b11 r) c h = record { b0 = refl; b1 = refl; b2 = refl; b3 = omega arith; b4 = refl; b5 = refl }
 
@@ -78,12 +75,6 @@ module _ (p : Bytes) (l : Long p) (c t : ℕ) where
   header_like = elim (cases_Bool (has_pcr p)) [
     | inl h ↦ rw (header_clock c t p h) (like_trans p _ _ (like_continuity_counter p l _ (lt16 _)) (like_clock _ (long_continuity_counter p l _) _))
     | inr h ↦ rw (header_plain c t p h) (like_continuity_counter p l _ (lt16 _))
-  ]
-
-  pub header_long : Long (move_header c t p)
-  header_long = elim (cases_Bool (has_pcr p)) [
-    | inl h ↦ rw (header_clock c t p h) (long_clock _ (long_continuity_counter p l _) _)
-    | inr h ↦ rw (header_plain c t p h) (long_continuity_counter p l _)
   ]
 
   pub header_flag : has_pcr (move_header c t p) ≡ has_pcr p

@@ -73,9 +73,6 @@ module _ (es : List Entry) (T : ℕ) (ps : Packets) (w : Whole ps) (z : T % 300 
     pub run_moves : (k : ℕ) → is_null (r k) ≡ false → moves es (r k) ≡ true
     run_moves k h = and_from (sound es (r k)) _ (run_sound k) (sound_listed es (r k) (run_sound k) h)
 
-    pid_precedes : (k : ℕ) (p : Bytes) → precedes es (r k) p ≡ eqb (pid (r k)) (pid p)
-    pid_precedes k p = ap (λ x. x && eqb (pid (r k)) (pid p)) (run_sound k)
-
     -- the tally is what round 0 counts
     before_first : (k : ℕ) → k ≤ n → before r k ≡ before (λ i. get_or ps i []) k
     before_first zero h = refl

@@ -1,6 +1,6 @@
 -- What fetches answer, case by case, and the laws of windows and fillers.
-use Rattle.std.proofs.Common.{◌≡◌, ℕ, zero, suc, ◌+◌, ◌<◌, ◌≤◌, Bool, true, false, ◌&&◌, leb, [], length, get_or, take, drop, replicate, Ok, Err, sym, ap, ◌∙◌, subst, inl, inr, arith, lit<}
-use Rattle.std.proofs.lemmas.Bool.{cases_Bool, cond-true, cond-false, and_parts, leb-true, eq-eqb, ne_eqb, lt-ltb, le-ltb}
+use Rattle.std.proofs.Common.{◌≡◌, ℕ, zero, suc, ◌+◌, ◌<◌, ◌≤◌, Bool, true, false, ◌&&◌, leb, [], length, get_or, take, drop, replicate, Ok, sym, ap, ◌∙◌, subst, inl, inr, arith, lit<}
+use Rattle.std.proofs.lemmas.Bool.{cases_Bool, cond-true, cond-false, and_parts, leb-true, eq-eqb, lt-ltb}
 use Rattle.std.proofs.lemmas.List.{length-take-le, length-drop, get_or-take, get_or-drop, length-replicate, get_or-replicate}
 use Rattle.model.specs.Packet.{Bytes}
 use Rattle.model.specs.Runs.{Packets}
@@ -12,27 +12,8 @@ module _ (ps : Packets) (i : ℕ) where
   pub answers_ok : (n : ℕ) → n ≡ 188 → i < length ps → fetched ps i n ≡ Ok tt
   answers_ok n e l = rw (eq-eqb n 188 e, lt-ltb i (length ps) l)
 
-  pub answers_past : (n : ℕ) → n ≡ 188 → length ps ≤ i → fetched ps i n ≡ Err 8
-  answers_past n e l = rw (eq-eqb n 188 e, le-ltb i (length ps) l)
-
-  pub answers_buffer : (n : ℕ) → (n ≡ 188 → ⊥) → fetched ps i n ≡ Err 7
-  answers_buffer n e = rw (ne_eqb n 188 e)
-
   pub writes_ok : (b : Bytes) → length b ≡ 188 → i < length ps → filled ps i b ≡ get_or ps i []
   writes_ok b e l = rw (eq-eqb (length b) 188 e, lt-ltb i (length ps) l)
-
-  pub writes_past : (b : Bytes) → length b ≡ 188 → length ps ≤ i → filled ps i b ≡ b
-  writes_past b e l = rw (eq-eqb (length b) 188 e, le-ltb i (length ps) l)
-
-  pub writes_buffer : (b : Bytes) → (length b ≡ 188 → ⊥) → filled ps i b ≡ b
-  writes_buffer b e = rw (ne_eqb (length b) 188 e)
-
-  -- two lists that agree at i are alike to a fetch of i
-  pub same_answer : (qs : Packets) (j n : ℕ) → i < length ps → j < length qs → fetched ps i n ≡ fetched qs j n
-  same_answer qs j n l m = rw (lt-ltb i (length ps) l, lt-ltb j (length qs) m)
-
-  pub same_writes : (qs : Packets) (j : ℕ) (b : Bytes) → i < length ps → j < length qs → get_or ps i [] ≡ get_or qs j [] → filled ps i b ≡ filled qs j b
-  same_writes qs j b l m e = rw (lt-ltb i (length ps) l, lt-ltb j (length qs) m, e)
 
 module _ (start size : ℕ) (ps : Packets) where
   abbrev pub fits : Bool

@@ -1,6 +1,6 @@
 -- Copies and tallies over the seam between two rounds.
 use Rattle.std.proofs.Common.{◌≡◌, ℕ, zero, suc, ◌+◌, ◌%◌, ◌<◌, Bool, true, false, cond, not, ◌&&◌, ◌||◌, eqb, List, [], ◌∷◌, sym, refl, ap, ◌∙◌, inl, inr, arith}
-use Rattle.std.proofs.lemmas.Bool.{cases_Bool, cond-true, cond-false, and_parts, or_parts, or_right, or_left, both_ways, eqb-true, cases_lt}
+use Rattle.std.proofs.lemmas.Bool.{cases_Bool, cond-true, cond-false, and_parts, or_parts, or_right, or_left, both_ways, cases_lt}
 use Rattle.model.specs.declared.entry.Entry.{Entry}
 use Rattle.model.specs.Packet.{Bytes, pid, continuity_counter, has_payload}
 use Rattle.model.specs.Form.{sound}
@@ -22,9 +22,6 @@ module _ (es : List Entry) where
   copy_none (q ∷ xs) p h =
       let e = or_parts (precedes es q p) (has_pred xs p) h in
       cond-false (precedes es q p) _ _ e.0 ∙ copy_none xs p e.1
-
-  precedes_pid : (q p : Bytes) → precedes es q p ≡ true → pid q ≡ pid p
-  precedes_pid q p h = eqb-true (pid q) (pid p) (and_parts (sound es q) _ h).1
 
   -- a copy has its predecessor's counter, and a payload
   pub copy_tells : (xs : List Bytes) (p : Bytes) → copy es xs p ≡ true → (continuity_counter p ≡ last_counter xs (pid p)) × (has_payload p ≡ true)

@@ -1,5 +1,5 @@
 -- Bytes written into a buffer, one part after the other.
-use Rattle.std.proofs.Common.{◌≡◌, ℕ, suc, ◌+◌, ◌<◌, ◌≤◌, List, [], ◌∷◌, ◌++◌, length, get_or, take, drop, set, sym, ap, ◌∙◌, append_assoc, add_assoc, zero-add, add-one, arith, length-append, length-drop, take-append-drop, length-take, drop-drop, take_at, drop_at}
+use Rattle.std.proofs.Common.{◌≡◌, ℕ, suc, ◌+◌, ◌<◌, ◌≤◌, List, [], ◌∷◌, ◌++◌, length, get_or, take, drop, set, sym, ap, ◌∙◌, append_assoc, add_assoc, add-one, arith, length-append, length-drop, take-append-drop, length-take, drop-drop, take_at, drop_at}
 use lib.Seq.{take-append_seam, set-append_seam, split_at}
 use borrow.Rule.Slice.PartMut.{put_mid}
 use Rattle.model.specs.Buffers.{laid}
@@ -38,10 +38,6 @@ module _ {A : Type 0} where
       ∙ ap (λ n. set (take i b ++ (get_or b i v ∷ drop (suc i) b)) n v) (sym (front_length b i (omega arith)))
       ∙ set-append_seam (take i b) (get_or b i v) (drop (suc i) b) v
       ∙ ap (λ n. take i b ++ (v ∷ drop n b)) (sym (add-one i))
-
-  -- what stands at the front
-  pub laid_front : (b xs : List A) → laid 0 xs b ≡ xs ++ drop (length xs) b
-  laid_front b xs = ap (λ n. xs ++ drop n b) (zero-add (length xs))
 
   pub laid_take : (b xs : List A) → take (length xs) (laid 0 xs b) ≡ xs
   laid_take b xs = take-append_seam xs _

@@ -1,3 +1,2 @@
-pub mod Fronts
 pub mod Laying
 pub mod Searches

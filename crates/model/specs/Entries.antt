@@ -1,14 +1,19 @@
 -- The entries of a sheet: which PIDs there are, and what each carries.
-use Rattle.std.specs.Prelude.{ℕ, ◌+◌, Bool, true, false, cond, not, ◌&&◌, List, [], ◌∷◌, Some, None, Option, ◌==◌, nat_le}
+use Rattle.std.specs.Prelude.{ℕ, ◌+◌, Bool, true, false, cond, not, ◌&&◌, List, [], ◌∷◌, Some, None, Ok, Err, Option, Result, ◌==◌, nat_le}
 use Rattle.model.specs.declared.entry.Entry.{Entry}
 use Rattle.model.specs.declared.entry.Kind.{Kind}
 use Rattle.model.specs.declared.entry.Kind.TheVariants.{Pes, Sections, Clock}
+use Rattle.model.specs.declared.entry.UnknownKind.{UnknownKind}
 
 -- the number of each kind
 abbrev pub kind_number : Kind → ℕ
 kind_number Pes = 0
 kind_number Sections = 1
 kind_number Clock = 2
+
+-- the kind of a number, or the number where no kind has it
+abbrev pub decoded : ℕ → Result Kind UnknownKind
+decoded n = cond (n == 0) (Ok Pes) (cond (n == 1) (Ok Sections) (cond (n == 2) (Ok Clock) (Err (record { number = n }))))
 
 -- what the entries say of a PID
 abbrev pub kind_of : List Entry → ℕ → Option Kind

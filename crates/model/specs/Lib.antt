@@ -19,3 +19,4 @@ pub mod Sheets
 pub mod File
 pub mod House
 pub mod Report
+pub mod Words

@@ -4,7 +4,7 @@ ghost use Rattle.model.specs.Entries.{lawful};
 use crate::entry::Entry;
 
 // The data sheet of a reel: what its PIDs carry, its byte rate, and how long a round takes in ticks of 27 MHz.
-// Only the first `len` places of the table are entries.
+// Only the first `len` places of the table are entries: no heap, and a sheet is copied, as std's and the kit's vectors are not.
 #[derive(Clone, Copy)]
 pub struct Sheet {
     table: [Entry; 16],

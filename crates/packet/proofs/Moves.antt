@@ -68,9 +68,6 @@ module _ (c t : ℕ) (p : Bytes) (l : length p ≡ 188) where
 pub stamps_held : (u : Bytes) → stamped u ≡ true → 9 + stamp_bytes u ≤ length u
 stamps_held u h = leb-true (9 + stamp_bytes u) (length u) (all_at (stamp_tests u) h 8)
 
-pub stamped_within : (p : Bytes) → length p ≡ 188 → stamped (payload p) ≡ true → payload_place p ≤ 188
-stamped_within p l h = let d = length-drop (payload_place p) p in let z = stamps_held (payload p) h in omega arith
-
 -- a packet that does not move: its PID is not on the sheet, or it breaks a rule of form
 unlisted : (o : Option Kind) → is_some o ≡ false → listed o ≡ false
 unlisted None h = refl

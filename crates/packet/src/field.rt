@@ -3,12 +3,11 @@ ghost use Rattle.model.specs.Stamps.{stamp};
 ghost use Rattle.model.specs.Moves.{W, stamps, set_stamp};
 ghost use Rattle.packet.specs.Fields.{set_pcr_field};
 
-// How many values the clock has, 300 × 2^33, and how many a stamp has, 2^33.
-pub const CLOCK_VALUES: u64 = 2_576_980_377_600;
-
+// How many values a stamp has, 2^33.
 pub const STAMP_VALUES: u64 = 8_589_934_592;
 
-// Writes a clock value into its field, six bytes. The reserved bits stay.
+// Writes a clock value into its field, six bytes. The reserved bits stay. Fields are slices, as they are parts of a packet or payload at
+// places that are counted: arrays would be one more conversion at each call.
 pub fn put_pcr(field: &mut [u8], value: u64)
     requires { (length field.old ≡ 6) × (value < W) }
     ensures { field.new ≡ set_pcr_field value field.old }

@@ -1,11 +1,11 @@
 ghost use Rattle.std.specs.Prelude.{◌≡◌, ◌≤◌, true, List, [], ◌∷◌, drop};
-ghost use Rattle.model.specs.declared.entry.Entry.{Entry};
 ghost use Rattle.model.specs.Entries.{kind_of};
 ghost use Rattle.model.specs.Tests.{any_of};
 ghost use Rattle.model.specs.Rules.{numbered};
 ghost use Rattle.model.specs.Sheets.{entries_of};
 ghost use Rattle.model.specs.Form as spec;
 ghost use Rattle.model.specs.Packet.{pid, has_adaptation_field, adaptation_field_length};
+ghost use Rattle.packet.specs.Kinds.{Under};
 
 use crate::header;
 use crate::stuffing::is_stuffing;
@@ -62,7 +62,7 @@ fn is_bad_adaptation_field(packet: &[u8; 188]) -> bool
 
 // Rule 24; `kind` is what the sheet says of the packet's PID.
 fn is_bad_clock(kind: Option<Kind>, packet: &[u8; 188]) -> bool
-    ensures { (es : List Entry) → kind_of es (pid packet.now) ≡ kind → result ≡ spec.bad_clock es packet.now }
+    ensures { Under kind packet.now (λ es. result ≡ spec.bad_clock es packet.now) }
 {
     if !header::has_pcr(packet) {
         return false;
@@ -73,12 +73,12 @@ fn is_bad_clock(kind: Option<Kind>, packet: &[u8; 188]) -> bool
     }
 }
 
-// The rule of form that a packet breaks first; `kind` is what the sheet says of its PID.
+// The rule of form that a packet breaks first; `kind` is what the sheet says of its PID. Kind and packet go side by side in half of the
+// calls of this crate and are no struct: some read the packet and some write it, so it would be two.
 pub fn form_of_kind(kind: Option<Kind>, packet: &[u8; 188]) -> Option<Rule>
-    ensures { (es : List Entry) → kind_of es (pid packet.now) ≡ kind → numbered result ≡ spec.form es packet.now }
+    ensures { Under kind packet.now (λ es. numbered result ≡ spec.form es packet.now) }
 {
-    // the functions above read what they need of `rest` by its place in the packet
-    let [sync, b1, b2, b3, rest @ ..] = packet;
+    let [sync, b1, b2, b3, ..] = packet;
     if *sync != 0x47 {
         return Some(Rule::Sync);
     }
@@ -101,10 +101,7 @@ pub fn form_of_kind(kind: Option<Kind>, packet: &[u8; 188]) -> Option<Rule>
 pub fn kind_of(sheet: &Sheet, packet: &[u8; 188]) -> Option<Kind>
     ensures { result ≡ kind_of (entries_of sheet.now) (pid packet.now) }
 {
-    match sheet.find(header::pid(packet)) {
-        Some(listed) => Some(listed.kind),
-        None => None,
-    }
+    sheet.find(header::pid(packet)).map(|listed| listed.kind)
 }
 
 // The rule of form that a packet breaks first.

@@ -14,6 +14,7 @@ pub fn is_null(packet: &[u8; 188]) -> bool
     pid(packet) == 8191
 }
 
+// The flags are a bit each, and a function of a bit's place would read no better than the bit.
 pub fn payload_unit_start(packet: &[u8; 188]) -> bool
     ensures { result ≡ spec.payload_unit_start packet.now }
 {

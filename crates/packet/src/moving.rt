@@ -1,23 +1,24 @@
-ghost use Rattle.std.specs.Prelude.{◌≡◌, ◌+◌, ◌^◌, ◌<◌, ◌≤◌, true, List, length};
-ghost use Rattle.model.specs.declared.entry.Entry.{Entry};
-ghost use Rattle.model.specs.Entries.{kind_of};
-ghost use Rattle.model.specs.Packet.{pid, payload_place};
+ghost use Rattle.std.specs.Prelude.{◌≡◌, ◌+◌, ◌^◌, ◌<◌, ◌≤◌, true, length};
+ghost use Rattle.model.specs.Packet.{payload_place};
 ghost use Rattle.model.specs.Sheets.{entries_of};
 ghost use Rattle.model.specs.Stamps.{stamp_bytes};
 ghost use Rattle.model.specs.Moves.{move_header, move_stamps, stampable, moves, moved};
+ghost use Rattle.packet.specs.Kinds.{Under};
 
 use crate::{field, form, header, payload, pes};
+use model::clock::CLOCK_VALUES;
 use model::entry::Kind;
 use model::sheet::Sheet;
 
-// Moves the counter on, and the clock value, if there is one.
+// Moves the counter on, and the clock value, if there is one. Steps and ticks are two numbers, as in the definition of a move: a struct
+// of them would be taken apart in each clause.
 fn move_header(packet: &mut [u8; 188], steps: u64, ticks: u64)
     ensures { packet.new ≡ move_header steps ticks packet.old }
 {
     packet[3] = packet[3] / 16 * 16 + (packet[3] % 16 + (steps % 16) as u8) % 16;
     if header::has_pcr(packet) {
-        let pcr = header::pcr(packet) + ticks % field::CLOCK_VALUES;
-        field::put_pcr(&mut packet[6..12], pcr % field::CLOCK_VALUES);
+        let pcr = header::pcr(packet) + ticks % CLOCK_VALUES;
+        field::put_pcr(&mut packet[6..12], pcr % CLOCK_VALUES);
     }
 }
 
@@ -41,7 +42,7 @@ fn move_stamps(payload: &mut [u8], by: u64)
 
 // Whether a packet begins a PES packet and obeys rule 30; `kind` is what the sheet says of its PID.
 fn is_stampable(kind: Option<Kind>, packet: &[u8; 188]) -> bool
-    ensures stamps { (es : List Entry) → kind_of es (pid packet.now) ≡ kind → result ≡ stampable es packet.now }
+    ensures stamps { Under kind packet.now (λ es. result ≡ stampable es packet.now) }
     ensures within { result ≡ true → payload_place packet.now ≤ 188 }
 {
     if !pes::starts_pes(kind, packet) {
@@ -52,7 +53,7 @@ fn is_stampable(kind: Option<Kind>, packet: &[u8; 188]) -> bool
 
 // Moves a packet on that is known to be sound and to have its PID on the sheet; `kind` is what the sheet says of it.
 pub fn move_sound(kind: Option<Kind>, packet: &mut [u8; 188], steps: u64, ticks: u64)
-    ensures { (es : List Entry) → kind_of es (pid packet.old) ≡ kind → moves es packet.old ≡ true → packet.new ≡ moved es steps ticks packet.old }
+    ensures { Under kind packet.old (λ es. moves es packet.old ≡ true → packet.new ≡ moved es steps ticks packet.old) }
 {
     let place = header::payload_place(packet);
     let has_stamps = is_stampable(kind, packet);
@@ -65,7 +66,7 @@ pub fn move_sound(kind: Option<Kind>, packet: &mut [u8; 188], steps: u64, ticks:
 // Moves a packet on by so many steps of its counter and ticks of its clock; `kind` is what the sheet says of its PID.
 // A packet that is not sound, or whose PID is not on the sheet, stays as it is.
 pub fn move_on_as(kind: Option<Kind>, packet: &mut [u8; 188], steps: u64, ticks: u64)
-    ensures { (es : List Entry) → kind_of es (pid packet.old) ≡ kind → packet.new ≡ moved es steps ticks packet.old }
+    ensures { Under kind packet.old (λ es. packet.new ≡ moved es steps ticks packet.old) }
 {
     if kind.is_some() && form::form_of_kind(kind, packet).is_none() {
         move_sound(kind, packet, steps, ticks);

@@ -1,8 +1,7 @@
-ghost use Rattle.std.specs.Prelude.{◌≡◌, List};
-ghost use Rattle.model.specs.declared.entry.Entry.{Entry};
-ghost use Rattle.model.specs.Entries.{kind_of};
+ghost use Rattle.std.specs.Prelude.{◌≡◌};
 ghost use Rattle.model.specs.Packet as spec;
 ghost use Rattle.model.specs.Sheets.{entries_of};
+ghost use Rattle.packet.specs.Kinds.{Under};
 ghost use Rattle.packet.specs.Payloads.{payload_or, answered};
 
 use crate::{form, header};
@@ -14,12 +13,8 @@ use model::sheet::Sheet;
 pub fn payload_of(packet: &[u8; 188]) -> &[u8]
     ensures { result.now ≡ spec.payload packet.now }
 {
-    let place = header::payload_place(packet);
-    if place > 188 {
-        &packet[188..]
-    } else {
-        &packet[place..]
-    }
+    let place = header::payload_place(packet).min(188);
+    &packet[place..]
 }
 
 // The payload of a sound packet, if it has one; of another packet the rule that it breaks. `kind` is what the sheet says of its PID.
@@ -27,15 +22,12 @@ pub fn payload_of_kind<'a>(
     kind: Option<Kind>,
     packet: &'a [u8; 188],
 ) -> Result<Option<&'a [u8]>, Rule>
-    ensures { (es : List Entry) → kind_of es (spec.pid packet.now) ≡ kind → answered result ≡ payload_or es packet.now }
+    ensures { Under kind packet.now (λ es. answered result ≡ payload_or es packet.now) }
 {
-    if let Some(rule) = form::form_of_kind(kind, packet) {
-        return Err(rule);
-    }
-    if header::has_payload(packet) {
-        Ok(Some(payload_of(packet)))
-    } else {
-        Ok(None)
+    match form::form_of_kind(kind, packet) {
+        Some(rule) => Err(rule),
+        None if header::has_payload(packet) => Ok(Some(payload_of(packet))),
+        None => Ok(None),
     }
 }
 

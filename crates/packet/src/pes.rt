@@ -1,25 +1,17 @@
-ghost use Rattle.std.specs.Prelude.{◌≡◌, ◌+◌, ◌≤◌, ◌&&◌, List, length, take, drop, ◌==◌};
-ghost use Rattle.model.specs.declared.entry.Entry.{Entry};
-ghost use Rattle.model.specs.Entries.{kind_of, is_pes};
-ghost use Rattle.model.specs.Packet.{pid};
+ghost use Rattle.std.specs.Prelude.{◌≡◌, ◌+◌, ◌≤◌, ◌&&◌, length, take, drop, ◌==◌};
+ghost use Rattle.model.specs.Entries.{is_pes};
 ghost use Rattle.model.specs.Tests.{all_of};
 ghost use Rattle.model.specs.Stamps as spec;
+ghost use Rattle.packet.specs.Kinds.{Under};
 
 use crate::header;
 use model::entry::Kind;
 
-// The stream ids that carry stamps: the video streams, which are looked for most, the audio streams and private_stream_1.
-const STREAM_IDS: [u8; 49] = [
-    0xE0, 0xE1, 0xE2, 0xE3, 0xE4, 0xE5, 0xE6, 0xE7, 0xE8, 0xE9, 0xEA, 0xEB, 0xEC, 0xED, 0xEE, 0xEF,
-    0xC0, 0xC1, 0xC2, 0xC3, 0xC4, 0xC5, 0xC6, 0xC7, 0xC8, 0xC9, 0xCA, 0xCB, 0xCC, 0xCD, 0xCE, 0xCF,
-    0xD0, 0xD1, 0xD2, 0xD3, 0xD4, 0xD5, 0xD6, 0xD7, 0xD8, 0xD9, 0xDA, 0xDB, 0xDC, 0xDD, 0xDE, 0xDF,
-    0xBD,
-];
-
+// The stream ids that carry stamps: private_stream_1, the audio and the video streams.
 pub fn is_house_id(id: u8) -> bool
     ensures { result ≡ spec.house_id id }
 {
-    STREAM_IDS.contains(&id)
+    matches!(id, 0xBD | 0xC0..=0xEF)
 }
 
 // The tests of rule 30 up to the flags.
@@ -67,25 +59,19 @@ fn has_stamps(payload: &[u8]) -> bool
 pub fn obeys_rule_30(payload: &[u8]) -> bool
     ensures { result ≡ spec.stamped payload.now }
 {
-    if payload.len() < 9 {
-        return false;
-    }
-    begins_as_pes(payload) && has_stamps(payload)
+    payload.len() >= 9 && begins_as_pes(payload) && has_stamps(payload)
 }
 
 // Whether packets of this kind carry a PES stream.
 fn is_pes(kind: Option<Kind>) -> bool
     ensures { result ≡ is_pes kind }
 {
-    match kind {
-        Some(Kind::Pes) | Some(Kind::Clock) => true,
-        Some(Kind::Sections) | None => false,
-    }
+    matches!(kind, Some(Kind::Pes | Kind::Clock))
 }
 
 // Whether a packet has a PES header to judge; `kind` is what the sheet says of its PID.
 pub fn starts_pes(kind: Option<Kind>, packet: &[u8; 188]) -> bool
-    ensures { (es : List Entry) → kind_of es (pid packet.now) ≡ kind → result ≡ spec.starts_pes es packet.now }
+    ensures { Under kind packet.now (λ es. result ≡ spec.starts_pes es packet.now) }
 {
     is_pes(kind) && header::payload_unit_start(packet) && header::has_payload(packet)
 }

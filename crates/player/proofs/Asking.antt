@@ -1,5 +1,5 @@
 -- What a call that is asked leaves.
-use Rattle.std.proofs.Common.{◌≡◌, ℕ, ◌+◌, ◌-◌, true, [], ◌∷◌, length, get_or, Some, None, Option, sym, refl, ap, ◌∙◌, subst, zero-add, arith}
+use Rattle.std.proofs.Common.{◌≡◌, ℕ, ◌+◌, ◌-◌, true, [], ◌∷◌, length, get_or, None, sym, refl, ap, ◌∙◌, subst, zero-add}
 use Rattle.model.specs.declared.sheet.Sheet.{Sheet}
 use Rattle.model.specs.Packet.{Bytes}
 use Rattle.model.specs.Runs.{Packets, run}
@@ -16,12 +16,6 @@ use Rattle.verdict.specs.Going.{run_at}
 
 abbrev mk : rules.Call → rules.Answer → rules.Event
 mk c a = record { call = c; answer = a }
-
--- the standing after an answer that counts for nothing
-pub still_refused : (h : rules.History) (c : rules.Call) (k : ℕ) → rules.standing (mk c (rules.refused k) ∷ h) ≡ rules.standing h
-still_refused h c k =
-    let a = zero-add (rules.tally_of rules.is_approval h) in let b = zero-add (rules.begins h) in let d = zero-add (rules.ends h) in let e = zero-add (rules.gave_ups h) in let p = zero-add (rules.sent_now h) in
-    rw (a, b, d, e, p)
 
 pub still_counted : (h : rules.History) (c : rules.Call) (k : rules.Counts) → rules.standing (mk c (rules.counted k) ∷ h) ≡ rules.standing h
 still_counted h c k =
@@ -52,9 +46,6 @@ module _ (s : Sheet) (f : Finding) (ps : Packets) (unit : ℕ) (h : rules.Histor
       ∙ ap (λ qs. rules.refusal unit (length qs) v.standing c) x.packets_is
       ∙ ap (λ st. rules.refusal unit (length ps) st c) x.stands
 
-  pub refused_due : (c : rules.Call) (k : ℕ) → Some k ≡ rules.refusal v.unit (length v.packets) v.standing c → rules.refused k ≡ rules.due (entries_of s) (round_of s) f ps unit h c
-  refused_due c k e = ap (λ o. rules.answered o (rules.granted (entries_of s) (round_of s) f ps unit h c)) (e ∙ same_refusal c)
-
   pub granted_due : (c : rules.Call) → None ≡ rules.refusal v.unit (length v.packets) v.standing c → rules.granted (entries_of s) (round_of s) f ps unit h c ≡ rules.due (entries_of s) (round_of s) f ps unit h c
   granted_due c e = ap (λ o. rules.answered o (rules.granted (entries_of s) (round_of s) f ps unit h c)) (e ∙ same_refusal c)
 
@@ -75,18 +66,6 @@ module _ (s : Sheet) (f : Finding) (ps : Packets) (unit : ℕ) (h : rules.Histor
       ∙ ap (λ st. round_stamped (entries_of s) (round_of s) (tallies_in v.seen) (st.begun - 1) (get_or ps st.place [])) x.stands
       ∙ sym (run_at (entries_of s) (round_of s) ps (tallies_in v.seen) (rules.begins h - 1) (length ps) refl (λ _. x.sees.tallied ok) (rules.sent_now h) p.left _ refl)
       ∙ ap (run (entries_of s) (round_of s) ps) (sym (inv (entries_of s) (round_of s) f ps unit h x.lawful).sent)
-
-pub refused_began : (o : Option ℕ) (k u j : ℕ) → rules.refused k ≡ rules.answered o (rules.began u j) → Some k ≡ o
-refused_began None k u j h = let z : ◌≡◌ {A = ℕ} 0 1 = cc in absurd (omega arith)
-refused_began (Some m) k u j h = let e : k ≡ m = cc in ap Some e
-
-pub refused_gave_up : (o : Option ℕ) (k : ℕ) → rules.refused k ≡ rules.answered o rules.gave_up → Some k ≡ o
-refused_gave_up None k h = let z : ◌≡◌ {A = ℕ} 0 1 = cc in absurd (omega arith)
-refused_gave_up (Some m) k h = let e : k ≡ m = cc in ap Some e
-
-pub refused_by_lem : (o : Option ℕ) (k : ℕ) → rules.refused k ≡ rules.answered o rules.ended → Some k ≡ o
-refused_by_lem None k h = let z : ◌≡◌ {A = ℕ} 0 1 = cc in absurd (omega arith)
-refused_by_lem (Some m) k h = let e : k ≡ m = cc in ap Some e
 
 -- the standing after a packet
 pub moved_wrote : (h : rules.History) (c : rules.Call) (b : Bytes) → rules.standing (mk c (rules.wrote b) ∷ h) ≡ record { approved = rules.approved h; begun = rules.begins h; ended = rules.ends h; given_up = rules.gave_ups h; place = 1 + rules.sent_now h }

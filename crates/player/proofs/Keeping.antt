@@ -11,8 +11,7 @@ use Rattle.model.specs.Watches.{Finding, breach, Whole}
 use Rattle.model.specs.Breaches.{Breach, Broken, at, verdict, Decides}
 use Rattle.model.specs.Sheets.{entries_of, round_of}
 use Rattle.model.specs.Player as rules
-use Rattle.verdict.specs.declared.verdict.Checked.{Checked as Seen}
-use Rattle.player.specs.Standings.{approved_in}
+use Rattle.player.specs.Standings.{Checked as Seen, approved_in}
 use Rattle.player.specs.Scripts.{Sees}
 
 never_seen : {c : Seen} → None ≡ Some c → ⊥

@@ -1,16 +1,14 @@
 -- A player by its fields.
-use Rattle.std.specs.Prelude.{◌≡◌, ℕ, ◌-◌, List, [], replicate, Some, None, Option, slice_index_or}
+use Rattle.std.specs.Prelude.{◌≡◌, ℕ, ◌-◌, List, [], replicate, Some, None, Ok, Err, Option, Result, slice_index_or}
 use Rattle.model.specs.declared.entry.Entry.{Entry}
 use Rattle.model.specs.Packet.{Bytes}
 use Rattle.model.specs.Runs.{Packets}
 use Rattle.model.specs.Breaches.{Breach}
 use Rattle.model.specs.Sheets.{entries_of, round_of}
 use Rattle.model.specs.Player.{Standing}
-use Rattle.verdict.specs.declared.verdict.Verdict.{Verdict}
-use Rattle.verdict.specs.declared.verdict.Verdict.TheVariants.{Approved}
-use Rattle.verdict.specs.declared.verdict.Checked.{Checked}
+use Rattle.verdict.specs.declared.verdict.Breach.{Breach as Named}
 use Rattle.player.specs.declared.progress.player.Player.{Player}
-use Rattle.player.specs.Standings.{approved_in, standing_at}
+use Rattle.player.specs.Standings.{Checked, approved_in, standing_at}
 use Rattle.verdict.specs.Tallies.{round_stamped}
 use Rattle.verdict.specs.Ledgers.{Tallied}
 use Rattle.verdict.specs.Verdicts.{breach_of}
@@ -29,7 +27,8 @@ module _ {S W : Type 0} where
 
 abbrev pub tallies_in : Option Checked → List ℕ
 tallies_in None = replicate 16 0
-tallies_in (Some c) = c.tallies
+tallies_in (Some (Ok ts)) = ts
+tallies_in (Some (Err b)) = replicate 16 0
 
 -- the packet that an accepted send writes
 abbrev pub sent_packet : {S W : Type 0} → Player S W → Packets → Bytes
@@ -38,10 +37,15 @@ sent_packet p ps = round_stamped (entries_of p.sheet) (round_of p.sheet) (tallie
 -- what a check answers: the verdict of the first one
 abbrev pub checked_by : Option Checked → Option Breach → Option Breach
 checked_by None v = v
-checked_by (Some c) v = breach_of c.verdict
+checked_by (Some c) v = breach_of c
+
+-- a check without its tallies
+abbrev pub verdict_of : Checked → Result (Unit {0}) Named
+verdict_of (Ok ts) = Ok tt
+verdict_of (Err b) = Err b
 
 -- what is noted of a check
-pub record Noted (es : List Entry) (ps : Packets) (before : Option Checked) (v : Verdict) (after : Option Checked) : Type 0 where
+pub record Noted (es : List Entry) (ps : Packets) (before : Option Checked) (v : Result (Unit {0}) Named) (after : Option Checked) : Type 0 where
   pub again : (c : Checked) → before ≡ Some c → after ≡ before
-  pub made : (c : Checked) × ((after ≡ Some c) × (c.verdict ≡ v))
-  pub tallied : before ≡ None → v ≡ Approved → Tallied es ps (tallies_in after)
+  pub made : (c : Checked) × ((after ≡ Some c) × (verdict_of c ≡ v))
+  pub tallied : before ≡ None → v ≡ Ok tt → Tallied es ps (tallies_in after)

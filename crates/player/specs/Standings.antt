@@ -1,37 +1,44 @@
 -- How a player stands, by its fields.
-use Rattle.std.specs.Prelude.{◌≡◌, ℕ, ◌+◌, Bool, true, false, Some, None, Ok, Err, Option, Result}
+use Rattle.std.specs.Prelude.{◌≡◌, ℕ, ◌+◌, Bool, true, false, not, List, [], ◌∷◌, Some, None, Ok, Err, Option, Result, nat_le}
 use Rattle.model.specs.declared.refusal.Refusal.{Refusal}
 use Rattle.model.specs.Refusals.{refusal_number}
-use Rattle.model.specs.Player.{Standing, Answer, refused, began, Counts as C}
-use Rattle.verdict.specs.declared.verdict.Verdict.{Verdict}
-use Rattle.verdict.specs.declared.verdict.Verdict.TheVariants.{Approved, Breach}
-use Rattle.verdict.specs.declared.verdict.Checked.{Checked}
+use Rattle.model.specs.Player.{Standing, Answer, refused, began, is_open, Counts as C}
+use Rattle.model.specs.Tests.{first_broken}
+use Rattle.verdict.specs.declared.verdict.Breach.{Breach}
 use Rattle.player.specs.declared.progress.Progress.{Progress}
+use Rattle.player.specs.declared.progress.refusals.Standing.{Standing as S}
 use Rattle.player.specs.declared.progress.Counts.{Counts}
 use Rattle.player.specs.declared.progress.Token.{Token}
 
-abbrev pub approves : Verdict → Bool
-approves Approved = true
-approves (Breach j i r) = false
+-- what a check came to: the tallies of an approved reel, or the first breach
+abbrev pub Checked : Type 0
+Checked = Result (List ℕ) Breach
 
 -- whether a check was made and approved
 abbrev pub approved_in : Option Checked → Bool
 approved_in None = false
-approved_in (Some c) = approves c.verdict
+approved_in (Some (Ok ts)) = true
+approved_in (Some (Err b)) = false
 
 abbrev pub standing_at : Bool → Progress → Standing
 standing_at b p = record { approved = b; begun = p.begun; ended = p.ended; given_up = p.given_up; place = p.place }
 
-abbrev pub number_of : Option Refusal → Option ℕ
-number_of None = None
-number_of (Some r) = Some (refusal_number r)
+abbrev pub standing_by : S → Standing
+standing_by s = standing_at s.approved s.progress
+
+-- the refusals of every call about a round, and of one about the open round
+abbrev pub live_refusal : Standing → Option ℕ
+live_refusal s = first_broken ((10, nat_le 1 s.given_up) ∷ (11, not s.approved) ∷ [])
+
+abbrev pub open_refusal : Standing → Option ℕ
+open_refusal s = first_broken ((10, nat_le 1 s.given_up) ∷ (11, not s.approved) ∷ (13, not (is_open s)) ∷ [])
 
 abbrev pub counts_of : Counts → C
 counts_of c = record { begun = c.begun; ended = c.ended; given_up = c.given_up; packets = c.packets; is_open = c.«open» }
 
 -- a begin's answer
 abbrev pub began_of : Result Token Refusal → Answer
-began_of (Ok t) = began t.unit t.round
+began_of (Ok t) = began t.id.unit t.id.round
 began_of (Err r) = refused (refusal_number r)
 
 abbrev pub after_begin : Bool → Progress → Progress
@@ -59,10 +66,14 @@ abbrev pub closed_of : Answer → Result (Unit {0}) (Refusal × Token) → Answe
 closed_of a (Ok u) = a
 closed_of a (Err e) = refused (refusal_number e.0)
 
+abbrev pub without_token : Result (Unit {0}) (Refusal × Token) → Result (Unit {0}) Refusal
+without_token (Ok u) = Ok u
+without_token (Err e) = Err e.0
+
 abbrev pub Back : Token → Result (Unit {0}) (Refusal × Token) → Type 0
 Back t (Ok u) = Unit {0}
 Back t (Err e) = e.1 ≡ t
 
-abbrev pub sent_of : Result (Unit {0}) Refusal → Option ℕ
-sent_of (Ok u) = None
-sent_of (Err r) = Some (refusal_number r)
+abbrev pub refusal_of : Result (Unit {0}) Refusal → Option ℕ
+refusal_of (Ok u) = None
+refusal_of (Err r) = Some (refusal_number r)

@@ -8,7 +8,7 @@ use Rattle.model.specs.Reels.{cut, held, bad_bytes}
 use Rattle.reel.specs.declared.memory.Memory.{Memory}
 
 module _ {T : Type 0} (list : T → Bytes) where
-  abbrev pub memory_made : Result (Memory T) (Refusal × T) → Result Packets (ℕ × T)
+  abbrev pub memory_made : {b : _} → Result (Memory T b) (Refusal × T) → Result Packets (ℕ × T)
   memory_made (Ok m) = Ok (held (list m.store))
   memory_made (Err e) = Err (refusal_number e.0, e.1)
 

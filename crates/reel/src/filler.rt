@@ -5,7 +5,8 @@ ghost use Rattle.model.specs.Refusals.{outcome};
 ghost use Rattle.model.specs.Tests.{first_broken, unless};
 ghost use Rattle.laws.proofs.ReelLaws.{fillers_whole};
 
-use crate::reel::Reel;
+use crate::reel::{Reel, allow_fetch};
+use model::count::is_bad_number;
 use model::refusal::Refusal;
 
 // A given number of null packets.
@@ -19,11 +20,10 @@ impl Filler {
     pub fn new(size: usize) -> Result<Filler, Refusal>
         ensures { outcome (λ f. fillers f.size) result ≡ unless (first_broken ((3, bad_number size) ∷ [])) (fillers size) }
     {
-        if size >= 1 && size <= 1_000_000_000 {
-            Ok(Filler { size })
-        } else {
-            Err(Refusal::Count)
+        if is_bad_number(size) {
+            return Err(Refusal::Count);
         }
+        Ok(Filler { size })
     }
 }
 
@@ -39,21 +39,6 @@ fn write_filler(buffer: &mut [u8])
     buffer[3] = 0x10;
 }
 
-// Fetches from so many null packets.
-pub(crate) fn fetch_filler(size: usize, place: usize, buffer: &mut [u8]) -> Result<(), Refusal>
-    ensures answers { outcome (λ u. u) result ≡ fetched (fillers size) place (length buffer.old) }
-    ensures writes { buffer.new ≡ filled (fillers size) place buffer.old }
-{
-    if buffer.len() != 188 {
-        return Err(Refusal::Buffer);
-    }
-    if place >= size {
-        return Err(Refusal::PastEnd);
-    }
-    write_filler(buffer);
-    Ok(())
-}
-
 impl Reel for Filler {
     ghost packets = { λ s. fillers s.size };
 
@@ -64,6 +49,8 @@ impl Reel for Filler {
     }
 
     fn fetch(&mut self, place: usize, buffer: &mut [u8]) -> Result<(), Refusal> {
-        fetch_filler(self.size, place, buffer)
+        allow_fetch(self.size, place, buffer.len())?;
+        write_filler(buffer);
+        Ok(())
     }
 }

@@ -1,4 +1,4 @@
-ghost use Rattle.std.specs.Prelude.{◌≡◌, length};
+ghost use Rattle.std.specs.Prelude.{◌≡◌, ◌<◌, length, OnOk};
 ghost use Rattle.model.specs.Runs.{Packets};
 ghost use Rattle.model.specs.Watches.{Whole};
 ghost use Rattle.model.specs.Refusals.{outcome};
@@ -21,4 +21,18 @@ pub trait Reel {
         ensures writes { buffer.new ≡ filled (packets self.old) place buffer.old };
 
     ghost whole: { (s : Self) → Whole (packets s) };
+}
+
+// Whether one of so many packets may be fetched from a place into a buffer of this size, or the refusal.
+pub fn allow_fetch(count: usize, place: usize, size: usize) -> Result<(), Refusal>
+    ensures answers { (ps : Packets) → length ps ≡ count → outcome (λ u. u) result ≡ fetched ps place size }
+    ensures within { OnOk result ((size ≡ 188) × (place < count)) }
+{
+    if size != 188 {
+        Err(Refusal::Buffer)
+    } else if place >= count {
+        Err(Refusal::PastEnd)
+    } else {
+        Ok(())
+    }
 }

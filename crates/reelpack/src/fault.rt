@@ -1,7 +1,7 @@
 use model::refusal::Refusal;
 use std::alloc::AllocFailed;
+use std::error::Error;
 use std::fmt;
-use words::words::refusal_words;
 
 const USAGE: &str = "usage: reelpack RATE ROUND [PID:KIND ...] < packets.ts > file.reel
   RATE   bytes for each second, 1 to 10000000
@@ -11,7 +11,7 @@ const USAGE: &str = "usage: reelpack RATE ROUND [PID:KIND ...] < packets.ts > fi
 for example: reelpack 188000 27000 0:1 0x100:2 < packets.ts > file.reel";
 
 // What is wrong, and what to do.
-#[derive(Drop)]
+#[derive(Debug, Drop)]
 pub(crate) enum Fault {
     Usage,
     // an argument that is no rate, no round length or no entry
@@ -50,10 +50,7 @@ impl fmt::Display for Fault {
             ),
             Fault::Repeated(text) => write!(f, "repeated entry `{text}`: write each PID once"),
             Fault::Entries(count) => write!(f, "{count} entries: write at most 16"),
-            Fault::Refused(refusal) => {
-                let words = refusal_words(*refusal);
-                write!(f, "{words}")
-            }
+            Fault::Refused(refusal) => write!(f, "{refusal}"),
             Fault::Size(size) => {
                 let rest = size % 188;
                 write!(
@@ -66,6 +63,14 @@ impl fmt::Display for Fault {
             Fault::Input(error) => write!(f, "cannot read standard input: {error}"),
             Fault::Output(error) => write!(f, "cannot write standard output: {error}"),
         }
+    }
+}
+
+impl Error for Fault {}
+
+impl From<Refusal> for Fault {
+    fn from(refusal: Refusal) -> Fault {
+        Fault::Refused(refusal)
     }
 }
 

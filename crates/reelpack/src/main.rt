@@ -17,23 +17,12 @@ const PORTION: u64 = 188 * 65_536;
 
 // The sheet that the command line asks for.
 fn sheet(rt: &HostRuntime) -> Result<Sheet, Fault> {
-    let mut args = match env::args(rt) {
-        Ok(args) => args,
-        Err(error) => return Err(Fault::Arguments(error.into())),
-    };
+    let mut args = env::args(rt).map_err(|error| Fault::Arguments(error.into()))?;
     let _program = args.next();
-    let Some(text) = args.next() else {
-        return Err(Fault::Usage);
-    };
-    let Some(rate) = rate(text.as_str()) else {
-        return Err(Fault::Rate(text));
-    };
-    let Some(text) = args.next() else {
-        return Err(Fault::Usage);
-    };
-    let Some(round) = round(text.as_str()) else {
-        return Err(Fault::Round(text));
-    };
+    let text = args.next().ok_or(Fault::Usage)?;
+    let rate = rate(text.as_str()).ok_or(Fault::Rate(text))?;
+    let text = args.next().ok_or(Fault::Usage)?;
+    let round = round(text.as_str()).ok_or(Fault::Round(text))?;
     let mut entries = Vec::new(rt.alloc());
     for text in args {
         let Some(entry) = entry(text.as_str()) else {
@@ -47,10 +36,7 @@ fn sheet(rt: &HostRuntime) -> Result<Sheet, Fault> {
     if entries.len() > 16 {
         return Err(Fault::Entries(entries.len()));
     }
-    match Sheet::new(entries.as_slice(), rate, round) {
-        Ok(sheet) => Ok(sheet),
-        Err(refusal) => Err(Fault::Refused(refusal)),
-    }
+    Ok(Sheet::new(entries.as_slice(), rate, round)?)
 }
 
 // All of standard input.
@@ -58,10 +44,11 @@ fn input(rt: &HostRuntime) -> Result<Vec<u8>, Fault> {
     let _ = eprintln!(rt; "reelpack: reading packets from standard input");
     let mut bytes = Vec::new(rt.alloc());
     for _ in 0..u64::MAX {
-        let more = match rt.stdin().take(PORTION).read_to_end(&mut bytes) {
-            Ok(more) => more,
-            Err(error) => return Err(Fault::Input(error.into())),
-        };
+        let more = rt
+            .stdin()
+            .take(PORTION)
+            .read_to_end(&mut bytes)
+            .map_err(|error| Fault::Input(error.into()))?;
         let packets = bytes.len() / 188;
         let _ = eprintln!(rt; "reelpack: packets read: {packets}");
         if (more as u64) < PORTION {
@@ -75,15 +62,13 @@ fn run(rt: &HostRuntime) -> Result<(), Fault> {
     let sheet = sheet(rt)?;
     let mut bytes = input(rt)?;
     let size = bytes.len();
-    match pack(&mut bytes, &sheet) {
-        Ok(()) => {}
-        Err(PackError::Refused(_)) => return Err(Fault::Size(size)),
-        Err(PackError::Memory) => return Err(Fault::Memory),
-    }
-    match rt.stdout().write_all(bytes.as_slice()) {
-        Ok(()) => {}
-        Err(error) => return Err(Fault::Output(error.into())),
-    }
+    pack(&mut bytes, &sheet).map_err(|error| match error {
+        PackError::Refused(_) => Fault::Size(size),
+        PackError::Memory => Fault::Memory,
+    })?;
+    rt.stdout()
+        .write_all(bytes.as_slice())
+        .map_err(|error| Fault::Output(error.into()))?;
     let written = bytes.len();
     let _ = eprintln!(rt; "reelpack: bytes written: {written}");
     Ok(())

@@ -5,12 +5,11 @@ use Rattle.model.specs.declared.refusal.Refusal.{Refusal}
 use Rattle.model.specs.Refusals.{refusal_number}
 use Rattle.model.specs.Tests.{first_broken}
 use Rattle.model.specs.Player as rules
-use Rattle.verdict.specs.declared.verdict.Checked.{Checked}
 use Rattle.player.specs.declared.progress.Progress.{Progress}
 use Rattle.player.specs.declared.progress.Token.{Token}
 use Rattle.player.specs.declared.progress.player.Player.{Player}
 use Rattle.player.specs.Players.{standing_of, Same}
-use Rattle.player.specs.Standings.{standing_at, approved_in, after_begin, after_send, after_end, granted?, began_of, closed_of}
+use Rattle.player.specs.Standings.{Checked, standing_at, approved_in, after_begin, after_end, granted?, began_of, closed_of}
 use Rattle.reelplay.specs.Giving.{MayGiveUp}
 
 -- the refusal of giving up, by what a player's fields say
@@ -22,13 +21,6 @@ moved_over : (a b : ℕ) (s z : Option Checked) (p q : Progress) (u j : ℕ) →
 moved_over a b s z p q u j f g k h =
     let F : ℕ → Option Checked → Progress → Type 0 = λ n o r. refused_by n o r u j ≡ None in
     subst (λ n. F n z q) (sym f) (subst (λ o. F a o q) (sym g) (subst (λ r. F a s r) (sym k) h))
-
-kept_by_send : (unit : ℕ) (seen : Option Checked) (g : Bool) (p : Progress) (u j : ℕ) → refused_by unit seen p u j ≡ None → refused_by unit seen (after_send g p) u j ≡ None
-kept_by_send unit seen true p u j h = h
-kept_by_send unit seen false p u j h = h
-
-pub may_send : {S W : Type 0} (p q : Player S W) (g : Bool) → q.unit ≡ p.unit → q.seen ≡ p.seen → q.progress ≡ after_send g p.progress → (t : Token) → MayGiveUp p t → MayGiveUp q t
-may_send p q g a b c t h = moved_over p.unit q.unit p.seen q.seen (after_send g p.progress) q.progress t.unit t.round a b c (kept_by_send p.unit p.seen g p.progress t.unit t.round h)
 
 -- a begin that was granted tells unit and round
 granted_begin : (o : Option ℕ) (u b k j : ℕ) → rules.began k j ≡ rules.answered o (rules.began u b) → (o ≡ None) × (k ≡ u) × (j ≡ b)
@@ -55,20 +47,20 @@ pub may_begin : {S W : Type 0} (p q : Player S W) (t : Token) (n : ℕ) → Same
 may_begin p q t n s a m l =
     let r = p.progress in
     let o = rules.refusal p.unit n (standing_of p) rules.begin in
-    let w = granted_begin o p.unit r.begun t.unit t.round a in
+    let w = granted_begin o p.unit r.begun t.id.unit t.id.round a in
     let k : q.progress ≡ after_begin true r = m ∙ ap (λ v. after_begin (granted? v) r) w.0 in
     let F : ℕ → ℕ → Type 0 = λ u j. refused_by p.unit p.seen (after_begin true r) u j ≡ None in
     let h : F p.unit r.begun = may_now (approved_in p.seen) p.unit r.begun r.ended r.given_up l w.0 in
-    moved_over p.unit q.unit p.seen q.seen (after_begin true r) q.progress t.unit t.round s.unit s.seen k
-    (subst (λ u. F u t.round) (sym w.1) (subst (λ j. F p.unit j) (sym w.2) h))
+    moved_over p.unit q.unit p.seen q.seen (after_begin true r) q.progress t.id.unit t.id.round s.unit s.seen k
+    (subst (λ u. F u t.id.round) (sym w.1) (subst (λ j. F p.unit j) (sym w.2) h))
 
 -- an end that was refused says so, and changes nothing
 refused_end : (o : Option ℕ) (k : ℕ) (p : Progress) → rules.refused k ≡ rules.answered o rules.ended → after_end (granted? o) p ≡ p
 refused_end None k p h = absurd (cc)
 refused_end (Some n) k p h = refl
 
-pub may_end : {S W : Type 0} (p q : Player S W) (t : Token) (e : Refusal × Token) (n : ℕ) → Same p q → closed_of rules.ended (Err e) ≡ rules.answered (rules.refusal p.unit n (standing_of p) (rules.finish t.unit t.round)) rules.ended → q.progress ≡ after_end (granted? (rules.refusal p.unit n (standing_of p) (rules.finish t.unit t.round))) p.progress → e.1 ≡ t → MayGiveUp p t → MayGiveUp q e.1
+pub may_end : {S W : Type 0} (p q : Player S W) (t : Token) (e : Refusal × Token) (n : ℕ) → Same p q → closed_of rules.ended (Err e) ≡ rules.answered (rules.refusal p.unit n (standing_of p) (rules.finish t.id.unit t.id.round)) rules.ended → q.progress ≡ after_end (granted? (rules.refusal p.unit n (standing_of p) (rules.finish t.id.unit t.id.round))) p.progress → e.1 ≡ t → MayGiveUp p t → MayGiveUp q e.1
 may_end p q t e n s a m b h =
-    let o = rules.refusal p.unit n (standing_of p) (rules.finish t.unit t.round) in
+    let o = rules.refusal p.unit n (standing_of p) (rules.finish t.id.unit t.id.round) in
     let F : Token → Type 0 = λ x. MayGiveUp q x in
-    subst F (sym b) (moved_over p.unit q.unit p.seen q.seen p.progress q.progress t.unit t.round s.unit s.seen (m ∙ refused_end o (refusal_number e.0) p.progress a) h)
+    subst F (sym b) (moved_over p.unit q.unit p.seen q.seen p.progress q.progress t.id.unit t.id.round s.unit s.seen (m ∙ refused_end o (refusal_number e.0) p.progress a) h)

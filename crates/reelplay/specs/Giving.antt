@@ -7,4 +7,4 @@ use Rattle.player.specs.Players.{standing_of}
 
 -- the player would not refuse to give up the round of a token: how many packets its reel has plays no part in that
 abbrev pub MayGiveUp : {S W : Type 0} → Player S W → Token → Type 0
-MayGiveUp p t = rules.refusal p.unit 0 (standing_of p) (rules.give_up t.unit t.round) ≡ None
+MayGiveUp p t = rules.refusal p.unit 0 (standing_of p) (rules.give_up t.id.unit t.id.round) ≡ None

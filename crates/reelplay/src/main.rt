@@ -1,8 +1,6 @@
 #![tactic(auto)]
 
 // Plays a reel file: checks it, and writes its restamped rounds to standard output.
-mod stop;
-
 ghost use Rattle.player.specs.declared.progress.Token.{Token};
 ghost use Rattle.reelplay.specs.Giving.{MayGiveUp};
 
@@ -11,14 +9,10 @@ use file::reading::read;
 use player::progress::Token;
 use player::progress::player::Player;
 use reel::memory::Memory;
-use reel::reel::Reel;
-use report::numbers::rule_number;
 use report::report::House;
 use std::io::{BufWriter, Write};
 use std::{env, fs};
-use stop::Stop;
-use verdict::verdict::Verdict;
-use words::words::{refusal_words, rule_words};
+use verdict::verdict::Breach;
 
 const USAGE: &str = "usage: reelplay FILE ROUNDS";
 
@@ -39,15 +33,10 @@ fn arguments(rt: &HostRuntime) -> anyhow::Result<(String, u32)> {
 // A player of the file, not checked yet, and how many packets a round has.
 fn load(rt: &HostRuntime, name: &str) -> anyhow::Result<(Player<Reels, House>, usize)> {
     let mut bytes = fs::read(rt, name)?;
-    let contents = match read(bytes.as_slice()) {
-        Ok(contents) => contents,
-        Err(refusal) => return Err(anyhow!(refusal_words(refusal))),
-    };
+    let contents = read(bytes.as_slice())?;
     bytes.truncate(188 * contents.count);
-    match Memory::new(bytes) {
-        Ok(reel) => Ok((Player::new(reel, contents.sheet, UNIT), contents.count)),
-        Err((refusal, _bytes)) => Err(anyhow!(refusal_words(refusal))),
-    }
+    let reel = Memory::new(bytes).map_err(|(refusal, _bytes)| refusal)?;
+    Ok((Player::new(reel, contents.sheet, UNIT), contents.count))
 }
 
 // Writes the packets of the open round.
@@ -60,9 +49,7 @@ fn send_round(
 {
     let mut packet = [0u8; 188];
     for _ in 0..count {
-        if let Err(refusal) = player.send(&mut packet) {
-            return Err(anyhow!(refusal_words(refusal)));
-        }
+        player.send(&mut packet)?;
         out.write_all(&packet)?;
     }
     Ok(out.flush()?)
@@ -83,22 +70,19 @@ fn play_round(
     out: &mut impl Write,
     player: &mut Player<Reels, House>,
     count: usize,
-) -> Result<(), Stop> {
-    let token = match player.begin() {
-        Ok(token) => token,
-        Err(refusal) => return Err(Stop::Failed(anyhow!(refusal_words(refusal)))),
-    };
+) -> anyhow::Result<()> {
+    let token = player.begin()?;
     match send_round(out, player, count) {
         Ok(()) => match player.end(token) {
             Ok(()) => Ok(()),
             Err((refusal, token)) => {
                 abandon(player, token);
-                Err(Stop::Failed(anyhow!(refusal_words(refusal))))
+                Err(refusal.into())
             }
         },
         Err(error) => {
             abandon(player, token);
-            Err(Stop::Failed(error))
+            Err(error)
         }
     }
 }
@@ -106,46 +90,32 @@ fn play_round(
 // Says what the check found, and whether the reel may be played.
 fn approve(rt: &HostRuntime, player: &mut Player<Reels, House>) -> anyhow::Result<()> {
     match player.check() {
-        Verdict::Approved => Ok(eprintln!(rt; "approved for every number of rounds")?),
-        Verdict::Breach {
-            round,
-            packet,
-            rule,
-        } => {
-            let number = rule_number(rule);
-            let words = rule_words(rule);
-            eprintln!(rt; "round {round}, packet {packet} breaks rule {number}: {words}")?;
+        Ok(()) => Ok(eprintln!(rt; "approved for every number of rounds")?),
+        Err(
+            Breach {
+                round,
+                packet,
+                rule,
+            },
+        ) => {
+            let number = u32::from(rule);
+            eprintln!(rt; "round {round}, packet {packet} breaks rule {number}: {rule}")?;
             Err(anyhow!("nothing is played"))
         }
     }
 }
 
-fn play(rt: &HostRuntime) -> Result<(), Stop> {
-    let (name, rounds) = arguments(rt)?;
-    let (mut player, count) = load(rt, name.as_str())?;
-    approve(rt, &mut player)?;
-    let mut out = match BufWriter::new(rt.alloc(), rt.stdout()) {
-        Ok(out) => out,
-        Err(error) => return Err(Stop::Failed(error.into())),
-    };
+fn main(rt: HostRuntime) -> anyhow::Result<()> {
+    let (name, rounds) = arguments(&rt)?;
+    let (mut player, count) = load(&rt, name.as_str())?;
+    approve(&rt, &mut player)?;
+    let mut out = BufWriter::new(rt.alloc(), rt.stdout())?;
     for round in 0..rounds {
         play_round(&mut out, &mut player, count)?;
-        if let Err(error) = eprintln!(rt; "round {round} played") {
-            return Err(Stop::Failed(error.into()));
-        }
+        eprintln!(rt; "round {round} played")?;
     }
     let counts = player.question();
     let ended = counts.ended;
     let packets = counts.packets;
-    if let Err(error) = eprintln!(rt; "{ended} rounds, {packets} packets") {
-        return Err(Stop::Failed(error.into()));
-    }
-    Ok(())
-}
-
-fn main(rt: HostRuntime) -> anyhow::Result<()> {
-    match play(&rt) {
-        Ok(()) => Ok(()),
-        Err(Stop::Failed(error)) => Err(error),
-    }
+    Ok(eprintln!(rt; "{ended} rounds, {packets} packets")?)
 }

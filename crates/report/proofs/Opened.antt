@@ -1,54 +1,41 @@
 -- What is known of a file that was read.
-use Rattle.std.proofs.Common.{◌≡◌, ℕ, ◌-◌, ◌*◌, ◌/◌, ◌%◌, ◌≤◌, Bool, true, false, cond, not, ◌&&◌, ◌||◌, eqb, [], ◌∷◌, length, take, Some, None, Ok, Option, sym, refl, ap, ◌∙◌, arith, length-take}
-use Rattle.std.proofs.lemmas.Bool.{or_parts, or_from, not-false, not_from_true, eqb-true, eq-eqb}
+use Rattle.std.proofs.Common.{◌≡◌, ℕ, ◌-◌, ◌*◌, ◌≤◌, Bool, true, false, cond, length, take, Some, None, Ok, Option, refl, ap, arith, IfOk, Err, Result}
+use Rattle.std.proofs.lemmas.Grind.{common_steps}
 use Rattle.model.specs.Packet.{Bytes}
-use Rattle.model.specs.Entries.{lawful}
-use Rattle.model.specs.Sheets.{bad_timing}
-use Rattle.model.specs.Tests.{first_broken, unless}
-use Rattle.model.specs.File.{FileText, opened, last, no_trailer, bad_distance, bad_count, bad_number, rate_in, round_in, count_in, distance_in, entries_in, are_entries}
+use Rattle.model.specs.File.{FileText, opened, last, bad_count, bad_number, count_in, distance_in}
 use Rattle.model.specs.Reels.{bad_bytes}
+use Rattle.model.specs.declared.refusal.Refusal.{Refusal}
+use Rattle.report.specs.declared.checking.Checked.{Checked}
+use Rattle.model.specs.Tests.{unless}
+use Rattle.report.specs.Checks.{Checks}
 
-granted : {A : Type 0} (o : Option ℕ) (a b : A) → unless o a ≡ Ok b → (o ≡ None) × (a ≡ b)
-granted None a b h = (refl, cc)
-granted (Some n) a b h = let z : ◌≡◌ {A = ℕ} 0 1 = cc in absurd (omega arith)
+-- of a file that passes all tests, the third says nothing
+passed : {A : Type 0} (o : Option ℕ) (v t : A) → unless o v ≡ Ok t → v ≡ t
+passed None v t h = cc
+passed (Some n) v t h = cc
 
-passed : (t : Bool) (n : ℕ) (o : Option ℕ) → cond t (Some n) o ≡ None → (t ≡ false) × (o ≡ None)
-passed true n o h = let z : ◌≡◌ {A = ℕ} 0 1 = cc in absurd (omega arith)
-passed false n o h = (refl, h)
+third : {A : Type 0} (a b c : Bool) (o : Option ℕ) (v t : A) → unless (cond a (Some 1) (cond b (Some 2) (cond c (Some 3) o))) v ≡ Ok t → (c ≡ false) × (v ≡ t)
+third true b c o v t h = cc
+third false true c o v t h = cc
+third false false true o v t h = cc
+third false false false o v t h = (refl, passed o v t h)
 
-module _ (f : Bytes) (t : FileText) (h : opened f ≡ Ok t) where
-  T : Bytes
-  T = last 24 f
+counted : (f : Bytes) (t : FileText) → opened f ≡ Ok t → (bad_count (length f - distance_in (last 24 f)) (count_in (last 24 f)) ≡ false) × (count_in (last 24 f) ≡ t.count)
+counted f t h = let g = third _ _ _ _ _ t h in (g.0, ap (λ (x : FileText). x.count) g.1)
 
-  D : ℕ
-  D = distance_in (last 24 f)
+-- its packets lie within it, and are as many as there may be
+pub count_within : (f : Bytes) (t : FileText) → opened f ≡ Ok t → 188 * t.count ≤ length f
+count_within f t h = let g = counted f t h in grind (arith, common_steps)
 
-  tests : (bad_count (length f - distance_in (last 24 f)) (count_in (last 24 f)) ≡ false) × (count_in (last 24 f) ≡ t.count)
-  tests =
-      let n = (distance_in (last 24 f) - 24) / 4 in
-      let bs = take (4 * n) (last (distance_in (last 24 f)) f) in
-      let rest = first_broken ((4, not (are_entries n bs && lawful (entries_in n bs))) ∷ (5, bad_timing (rate_in (last 24 f)) (round_in (last 24 f))) ∷ []) in
-      let three = cond (bad_count (length f - distance_in (last 24 f)) (count_in (last 24 f))) (Some 3) rest in
-      let two = cond (bad_distance (length f) (distance_in (last 24 f))) (Some 2) three in
-      let g = granted (cond (no_trailer f) (Some 1) two) (record { sheet = record { entries = entries_in n bs; rate = rate_in (last 24 f); round = round_in (last 24 f) }; count = count_in (last 24 f) }) t h in
-      let a = passed (no_trailer f) 1 two g.0 in
-      let b = passed (bad_distance (length f) (distance_in (last 24 f))) 2 three a.1 in
-      let c = passed (bad_count (length f - distance_in (last 24 f)) (count_in (last 24 f))) 3 rest b.1 in
-      (c.0, ap (λ (x : FileText). x.count) g.1)
+pub count_right : (f : Bytes) (t : FileText) → opened f ≡ Ok t → bad_number t.count ≡ false
+count_right f t h = let g = counted f t h in grind (arith, common_steps)
 
-  -- its packets lie within it, and are as many as there may be
-  pub count_within : 188 * t.count ≤ length f
-  count_within =
-      let e = tests.1 in
-      let s : length f - distance_in (last 24 f) ≡ 188 * count_in (last 24 f) = eqb-true _ _ (not-false _ (or_parts _ (bad_number (count_in (last 24 f))) tests.0).0) in
-      omega arith
+pub bytes_right : (f : Bytes) (t : FileText) → opened f ≡ Ok t → bad_bytes (take (188 * t.count) f) ≡ false
+bytes_right f t h =
+    let w = count_within f t h in
+    let r = count_right f t h in
+    grind (arith, common_steps)
 
-  pub count_right : bad_number t.count ≡ false
-  count_right = ap bad_number (sym tests.1) ∙ (or_parts _ (bad_number (count_in (last 24 f))) tests.0).1
-
-  pub bytes_right : bad_bytes (take (188 * t.count) f) ≡ false
-  bytes_right =
-      let w = count_within in
-      let l : length (take (188 * t.count) f) ≡ 188 * t.count = simp length-take (omega arith) in
-      ap (λ n. not (eqb (n % 188) 0) || bad_number (n / 188)) l
-      ∙ or_from _ _ (not_from_true _ (eq-eqb (188 * t.count % 188) 0 (omega arith))) ((let e : 188 * t.count / 188 ≡ t.count = omega arith in ap bad_number e) ∙ count_right)
+pub few : (f : Bytes) (r : Result Checked Refusal) → Checks f r → length f ≤ 65536 → IfOk r (λ c. c.contents.count ≤ 999)
+few f (Ok c) h k = let w = count_within f _ h.0 in omega arith
+few f (Err e) h k = tt

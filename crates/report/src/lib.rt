@@ -1,7 +1,7 @@
 #![tactic(auto)]
 
 // The report on a reel file, for a host program.
+mod checking;
 mod lines;
-pub mod numbers;
+mod pen;
 pub mod report;
-mod text;

@@ -1,5 +1,5 @@
 -- From the rounds to the verdict.
-use Rattle.std.proofs.Common.{◌≡◌, ℕ, zero, suc, ◌+◌, ◌-◌, ◌*◌, ◌%◌, ◌<◌, ◌≤◌, Bool, true, false, cond, not, ◌&&◌, ◌||◌, eqb, List, [], ◌∷◌, ◌++◌, length, get_or, take, Some, None, Option, sym, refl, ap, ◌∙◌, subst, one-mul, zero-mul, arith, take-suc}
+use Rattle.std.proofs.Common.{◌≡◌, ℕ, zero, suc, ◌+◌, ◌-◌, ◌*◌, ◌%◌, ◌<◌, ◌≤◌, Bool, true, false, cond, not, ◌&&◌, ◌||◌, eqb, List, [], ◌∷◌, ◌++◌, length, get_or, take, Some, None, Err, Option, sym, refl, ap, ◌∙◌, subst, one-mul, zero-mul, arith, take-suc}
 use Rattle.std.proofs.lemmas.List.{take_all}
 use Rattle.std.proofs.lemmas.Bool.{cond-true, cond-false}
 use Rattle.model.specs.declared.entry.Entry.{Entry}
@@ -12,7 +12,7 @@ use Rattle.model.specs.Watches.{Finding, Whole}
 use Rattle.model.specs.Breaches.{Breach, clocked, all_clocked, first_in, in_round, verdict}
 use Rattle.laws.proofs.Rounds.{run_first}
 use Rattle.verdict.specs.declared.ledger.Row.{Row}
-use Rattle.verdict.specs.declared.verdict.Fault.{Fault}
+use Rattle.verdict.specs.declared.verdict.Breach.{Breach as Broken}
 use Rattle.verdict.specs.Verdicts.{fault_at}
 use Rattle.verdict.specs.Ledgers.{Knows, Tallied, State}
 
@@ -35,8 +35,9 @@ module _ (es : List Entry) (T : ℕ) (f : Finding) (ps : Packets) where
   less : (a i : ℕ) → a + i - a ≡ i
   less a i = omega arith
 
-  pub verdict_zero : (x : Fault) → fault_at (0 * n) (Some x) ≡ first_in es T f ps (0 * n) n → Some (mk 0 x.packet (rule_number x.rule)) ≡ verdict es T f ps
-  verdict_zero x h = sym (ap (λ o. in_round es T f ps 0 o rest) (zeroth (fault_at (0 * n) (Some x)) h) ∙ ap (λ i. Some (mk 0 i (rule_number x.rule))) (less (0 * n) x.packet))
+  pub verdict_zero : (x : Broken) → x.round ≡ 0 → fault_at (0 * n) (Err x) ≡ first_in es T f ps (0 * n) n → Some (mk x.round x.packet (rule_number x.rule)) ≡ verdict es T f ps
+  verdict_zero x r h = ap (λ j. Some (mk j x.packet (rule_number x.rule))) r
+      ∙ sym (ap (λ o. in_round es T f ps 0 o rest) (zeroth (fault_at (0 * n) (Err x)) h) ∙ ap (λ i. Some (mk 0 i (rule_number x.rule))) (less (0 * n) x.packet))
 
   after_zero : None ≡ first_in es T f ps (0 * n) n → verdict es T f ps ≡ rest
   after_zero h = ap (λ o. in_round es T f ps 0 o rest) (zeroth None h)
@@ -47,8 +48,9 @@ module _ (es : List Entry) (T : ℕ) (f : Finding) (ps : Packets) where
   after_clocks : None ≡ first_in es T f ps (0 * n) n → true ≡ all_clocked es es ps → verdict es T f ps ≡ in_round es T f ps 1 (first_in es T f ps n n) None
   after_clocks h a = after_zero h ∙ cond-true (all_clocked es es ps) (in_round es T f ps 1 (first_in es T f ps n n) None) (Some (mk 0 n 31)) (sym a)
 
-  pub verdict_one : None ≡ first_in es T f ps (0 * n) n → true ≡ all_clocked es es ps → (x : Fault) → fault_at (1 * n) (Some x) ≡ first_in es T f ps (1 * n) n → Some (mk 1 x.packet (rule_number x.rule)) ≡ verdict es T f ps
-  verdict_one h a x k = sym (after_clocks h a ∙ ap (λ o. in_round es T f ps 1 o None) (oneth (fault_at (1 * n) (Some x)) k) ∙ ap (λ i. Some (mk 1 i (rule_number x.rule))) (less (1 * n) x.packet))
+  pub verdict_one : None ≡ first_in es T f ps (0 * n) n → true ≡ all_clocked es es ps → (x : Broken) → x.round ≡ 1 → fault_at (1 * n) (Err x) ≡ first_in es T f ps (1 * n) n → Some (mk x.round x.packet (rule_number x.rule)) ≡ verdict es T f ps
+  verdict_one h a x r k = ap (λ j. Some (mk j x.packet (rule_number x.rule))) r
+      ∙ sym (after_clocks h a ∙ ap (λ o. in_round es T f ps 1 o None) (oneth (fault_at (1 * n) (Err x)) k) ∙ ap (λ i. Some (mk 1 i (rule_number x.rule))) (less (1 * n) x.packet))
 
   pub verdict_none : None ≡ first_in es T f ps (0 * n) n → true ≡ all_clocked es es ps → None ≡ first_in es T f ps (1 * n) n → None ≡ verdict es T f ps
   verdict_none h a k = sym (after_clocks h a ∙ ap (λ o. in_round es T f ps 1 o None) (oneth None k))

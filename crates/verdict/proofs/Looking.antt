@@ -1,5 +1,5 @@
 -- One packet more: what is found at it, and what is then known.
-use Rattle.std.proofs.Common.{◌≡◌, ℕ, suc, ◌+◌, true, false, List, [], ◌∷◌, ◌++◌, Some, None, Option, sym, ap, ◌∙◌, subst, append_assoc, add-one}
+use Rattle.std.proofs.Common.{◌≡◌, ℕ, suc, ◌+◌, true, false, List, [], ◌∷◌, ◌++◌, Some, None, Option, sym, refl, ap, ◌∙◌, subst, append_assoc, add-one}
 use Rattle.std.proofs.lemmas.List.{append-nil}
 use Rattle.std.proofs.lemmas.Bool.{cond-true, cond-false}
 use Rattle.model.specs.declared.entry.Entry.{Entry}
@@ -85,3 +85,11 @@ module _ (es : List Entry) (T : ℕ) (f : Finding) (ps : Packets) (k : ℕ) wher
 
       pub next_untold : j.observed ≡ false → State es T f ps (k + 1) rows2 g
       next_untold t = subst (λ m. State es T f ps m rows2 g) (sym (add-one k)) (pass_state h0 t)
+
+      -- where the watches are told of nothing
+      pub look_else : (j.rule ≡ None → j.observed ≡ false) → numbered j.rule ≡ breach es T f ps k
+      look_else h = by_rule j.rule refl
+        where
+          by_rule : (o : Option Rule) → j.rule ≡ o → numbered j.rule ≡ breach es T f ps k
+          by_rule None e = ap numbered e ∙ look_untold e (h e)
+          by_rule (Some r) e = ap numbered e ∙ look_broken r e

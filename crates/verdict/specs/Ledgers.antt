@@ -1,6 +1,6 @@
 -- What a ledger knows of the packets past.
-use Rattle.std.specs.Prelude.{◌≡◌, ℕ, ◌+◌, ◌*◌, ◌%◌, ◌<◌, ◌≤◌, Bool, true, false, cond, not, ◌&&◌, ◌||◌, List, [], ◌∷◌, ◌++◌, length, get_or, Some, None, Option, ◌==◌, slice_index, slice_index_or}
-use Rattle.verdict.specs.declared.verdict.Fault.{Fault}
+use Rattle.std.specs.Prelude.{◌≡◌, ℕ, ◌+◌, ◌*◌, ◌%◌, ◌<◌, ◌≤◌, Bool, true, false, cond, not, ◌&&◌, ◌||◌, List, [], ◌∷◌, ◌++◌, length, get_or, Some, None, Ok, Option, Result, IfErr, ◌==◌, slice_index, slice_index_or}
+use Rattle.verdict.specs.declared.verdict.Breach.{Breach}
 use Rattle.verdict.specs.Verdicts.{fault_at}
 use Rattle.model.specs.declared.entry.Entry.{Entry}
 use Rattle.model.specs.Entries.{is_clock}
@@ -56,10 +56,10 @@ Looks es k p rows g r rows2 g2 =
     (numbered r ≡ breach es T f ps k) × (r ≡ None → State es T f ps (k + 1) rows2 g2)
 
 -- what is found in a round, where the tallies are those of the reel or the round is the first
-abbrev pub Rounds : List Entry → ℕ → Finding → Packets → ℕ → List ℕ → List Row → Finding → Option Fault → List Row → Finding → Type 0
+abbrev pub Rounds : List Entry → ℕ → Finding → Packets → ℕ → List ℕ → List Row → Finding → Result (Unit {0}) Breach → List Row → Finding → Type 0
 Rounds es T f ps j ts rows g r rows2 g2 =
     ((1 ≤ j) → Tallied es ps ts) → State es T f ps (j * length ps) rows g →
-    (fault_at (j * length ps) r ≡ first_in es T f ps (j * length ps) (length ps)) × (r ≡ None → State es T f ps (j * length ps + length ps) rows2 g2)
+    (fault_at (j * length ps) r ≡ first_in es T f ps (j * length ps) (length ps)) × (IfErr r (λ b. b.round ≡ j) × (r ≡ Ok tt → State es T f ps (j * length ps + length ps) rows2 g2))
 
 -- whether p is a copy, and whether its counter is right, by its predecessor and whether that is a copy
 abbrev pub copy_of : Option Bytes → Bool → Bytes → Bool

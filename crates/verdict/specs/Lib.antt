@@ -1,4 +1,5 @@
 pub mod Tallies
+pub mod Fitting
 pub mod Ledgers
 pub mod Verdicts
 pub mod RoundReels

@@ -13,7 +13,8 @@ use Rattle.laws.specs.Theorems.{Sized}
 use Rattle.laws.proofs.Final.{moves_lawfully}
 use Rattle.laws.proofs.Rounds.{times300}
 use Rattle.verdict.specs.Ledgers.{Tallied}
-use Rattle.verdict.specs.RoundReels.{first_of, fit_rounds, stamped_at, rounds_by}
+use Rattle.verdict.specs.Fitting.{fit_rounds}
+use Rattle.verdict.specs.RoundReels.{first_of, stamped_at, rounds_by}
 use Rattle.verdict.specs.Going.{by_table}
 
 module _ (f : ℕ → Bytes) where

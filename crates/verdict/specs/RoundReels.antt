@@ -1,5 +1,5 @@
 -- Rounds of a reel, one after the other, as a reel.
-use Rattle.std.specs.Prelude.{ℕ, zero, suc, ◌*◌, ◌/◌, ◌%◌, Bool, cond, ◌&&◌, List, [], ◌∷◌, ◌++◌, length, Ok, Err, Result, nat_le, slice_index_or}
+use Rattle.std.specs.Prelude.{ℕ, zero, suc, ◌*◌, ◌/◌, ◌%◌, cond, List, [], ◌∷◌, ◌++◌, length, Ok, Err, Result, slice_index_or}
 use Rattle.model.specs.declared.entry.Entry.{Entry}
 use Rattle.model.specs.declared.refusal.Refusal.{Refusal}
 use Rattle.model.specs.declared.sheet.Sheet.{Sheet}
@@ -8,16 +8,13 @@ use Rattle.model.specs.Refusals.{refusal_number}
 use Rattle.model.specs.Runs.{Packets, run}
 use Rattle.model.specs.Sheets.{entries_of, round_of}
 use Rattle.verdict.specs.Tallies.{round_stamped}
+use Rattle.verdict.specs.Fitting.{fit_rounds}
 use Rattle.verdict.specs.declared.rounds.Rounds.{Rounds}
 
 -- the first m packets of a run, in order
 abbrev pub first_of : (ℕ → Bytes) → ℕ → Packets
 first_of f zero = []
 first_of f (suc m) = first_of f m ++ (f m ∷ [])
-
--- whether n rounds of a reel of count packets are a reel
-abbrev pub fit_rounds : ℕ → ℕ → Bool
-fit_rounds n count = nat_le 1 n && (nat_le n 1000000 && nat_le (n * count) 1000000000)
 
 -- the packet at place k of the rounds, by a table of tallies
 abbrev pub stamped_at : List Entry → ℕ → List ℕ → Packets → ℕ → Bytes
@@ -27,12 +24,12 @@ stamped_at es T ts ps k = round_stamped es T ts (k / length ps) (slice_index_or 
 abbrev pub rounds_by : List Entry → ℕ → List ℕ → ℕ → Packets → Packets
 rounds_by es T ts n ps = cond (fit_rounds n (length ps)) (first_of (stamped_at es T ts ps) (n * length ps)) ps
 
-abbrev pub rounds_of : {R : Type 0} → Rounds R → Packets → Packets
+abbrev pub rounds_of : {R : Type 0} {b : _} → Rounds R b → Packets → Packets
 rounds_of r ps = rounds_by (entries_of r.sheet) (round_of r.sheet) r.tallies r.rounds ps
 
 -- what the constructor answers over a reel of packets ps: the first packets of the endless run, or refusal 6 and the reel
 module _ {R : Type 0} (packets : R → Packets) where
-  abbrev pub rounds_made : Result (Rounds R) (Refusal × R) → Result Packets (ℕ × R)
+  abbrev pub rounds_made : {b : _} → Result (Rounds R b) (Refusal × R) → Result Packets (ℕ × R)
   rounds_made (Ok r) = Ok (rounds_of r (packets r.below))
   rounds_made (Err e) = Err (refusal_number e.0, e.1)
 

@@ -1,16 +1,14 @@
 -- A verdict as the breach that it names.
-use Rattle.std.specs.Prelude.{ℕ, ◌+◌, Some, None, Option}
+use Rattle.std.specs.Prelude.{ℕ, ◌+◌, Some, None, Ok, Err, Option, Result}
 use Rattle.model.specs.Rules.{rule_number}
 use Rattle.model.specs.Breaches.{Breach as B}
-use Rattle.verdict.specs.declared.verdict.Verdict.{Verdict}
-use Rattle.verdict.specs.declared.verdict.Verdict.TheVariants.{Approved, Breach}
-use Rattle.verdict.specs.declared.verdict.Fault.{Fault}
+use Rattle.verdict.specs.declared.verdict.Breach.{Breach}
 
-abbrev pub breach_of : Verdict → Option B
-breach_of Approved = None
-breach_of (Breach round packet rule) = Some (record { round = round; packet = packet; rule = rule_number rule })
+abbrev pub breach_of : {A : Type 0} → Result A Breach → Option B
+breach_of (Ok a) = None
+breach_of (Err b) = Some (record { round = b.round; packet = b.packet; rule = rule_number b.rule })
 
--- a fault of a round that begins at place from
-abbrev pub fault_at : ℕ → Option Fault → Option (ℕ × ℕ)
-fault_at from None = None
-fault_at from (Some f) = Some (from + f.packet, rule_number f.rule)
+-- the place and the rule of the breach of a round that begins at place from
+abbrev pub fault_at : ℕ → Result (Unit {0}) Breach → Option (ℕ × ℕ)
+fault_at from (Ok u) = None
+fault_at from (Err b) = Some (from + b.packet, rule_number b.rule)

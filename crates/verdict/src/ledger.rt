@@ -1,4 +1,5 @@
 use model::rule::Rule;
+use model::sheet::Sheet;
 
 // What is kept of a PID: its latest sound packet, whether that is a copy, how many packets count for its tally, modulo 16,
 // and whether one carried a clock value.
@@ -10,11 +11,22 @@ pub struct Row {
     clocked: bool,
 }
 
-// What is judged of a packet: the rule of form or continuity that it breaks, and whether the watches observe it.
+// What is kept of all PIDs of a sheet, in its order: no heap, so that there are as many rows as a sheet has entries at most.
 #[derive(Clone, Copy)]
+pub struct Ledger {
+    sheet: Sheet,
+    rows: [Row; 16],
+}
+
+// What is judged of a packet: the rule of form or continuity that it breaks, and, whether it breaks one or not, whether the watches
+// observe it.
+#[derive(Clone, Copy, Debug, PartialEq, Eq)]
 pub struct Judged {
     pub rule: Option<Rule>,
     pub observed: bool,
 }
+
+// The tallies of the PIDs of a sheet, modulo 16, in its order.
+pub type Tallies = [u8; 16];
 
 pub mod judge;

@@ -1,13 +1,18 @@
-use model::sheet::Sheet;
+ghost use Rattle.std.specs.Prelude.{◌≡◌, true, length};
+ghost use Rattle.verdict.specs.Fitting.{fit_rounds};
 
-// Rounds of another reel, restamped. Where they do not fit, which only the constructor could let happen, it means the
-// other reel.
+use crate::ledger::Tallies;
+use model::sheet::Sheet;
+use reel::reel::Reel;
+
+// Rounds of another reel, restamped.
 #[derive(Drop)]
-pub struct Rounds<R> {
+pub struct Rounds<R: Reel> {
     below: R,
     sheet: Sheet,
-    tallies: [u8; 16],
+    tallies: Tallies,
     rounds: u32,
+    ghost fit: { fit_rounds rounds (length (R.Reel.packets below)) ≡ true },
 }
 
 pub mod layer;

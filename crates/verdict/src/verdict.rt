@@ -1,26 +1,12 @@
 use model::rule::Rule;
 
-// What the check says of a reel.
-#[derive(Clone, Copy)]
-pub enum Verdict {
-    Approved,
-    Breach {
-        round: u32,
-        packet: usize,
-        rule: Rule,
-    },
-}
-
-// The first breach of a round.
-#[derive(Clone, Copy)]
-pub struct Fault {
+// The first breach of the endless run: its round, the packet's place in the round, and the rule.
+#[derive(Clone, Copy, Debug, PartialEq, Eq)]
+pub struct Breach {
+    pub round: u32,
     pub packet: usize,
     pub rule: Rule,
 }
 
-// A verdict with the tallies of round 0, modulo 16, in the order of the sheet.
-#[derive(Clone, Copy)]
-pub struct Checked {
-    pub verdict: Verdict,
-    pub tallies: [u8; 16],
-}
+// What the check says of a reel: nothing against it in any round, or the first breach.
+pub type Verdict = Result<(), Breach>;

@@ -1,13 +1,14 @@
 -- A section takes on one byte after the other.
-use Rattle.std.proofs.Common.{◌≡◌, ℕ, ◌+◌, ◌-◌, ◌*◌, ◌%◌, ◌<◌, ◌≤◌, cond, ◌&&◌, eqb, leb, ◌≢◌, [], ◌∷◌, ◌++◌, length, take, set, sym, refl, ap, ◌∙◌, inl, inr, arith}
+use Rattle.std.proofs.Common.{Ok, Err, Result, ◌≡◌, ℕ, ◌+◌, ◌-◌, ◌*◌, ◌%◌, ◌<◌, ◌≤◌, cond, ◌&&◌, eqb, leb, ◌≢◌, [], ◌∷◌, ◌++◌, length, take, set, sym, refl, ap, ◌∙◌, inl, inr, arith}
 use borrow.Rule.Slice.PartMut.{mid_of}
 use Rattle.std.proofs.lemmas.List.{take_more_set, length-take-le, length-set, get_or-take, get_or-set_other}
 use Rattle.std.proofs.lemmas.Bool.{cases_Bool, cases_lt, cond-true, cond-false, and_parts, leb-true, eq-eqb, ne_eqb}
 use Rattle.model.specs.Packet.{Bytes, byte}
 use Rattle.model.specs.Crc.{crc32}
 use Rattle.model.specs.Sections.{Reading, section_length, grown, section, ended, wrong}
+use Rattle.model.specs.declared.rule.Rule.{Rule}
 use Rattle.watch.specs.declared.sections.progress.Progress.{Progress}
-use Rattle.watch.specs.declared.sections.progress.Progress.TheVariants.{Open, Ended, Filling, Wrong}
+use Rattle.watch.specs.declared.sections.progress.Progress.TheVariants.{Open, Ended, Filling}
 use Rattle.watch.specs.declared.sections.section.Section.{Section}
 use Rattle.watch.specs.Readings.{reading_of}
 
@@ -106,15 +107,15 @@ module _ (s : Section) (v : ℕ) where
             (elim (cases_lt (s.len + 1) (3 + section_length after)) [ inl y ↦ y | inr y ↦ absurd (n (omega arith)) ], omega arith)
       ]
 
-  module _ (p : Progress) (m : ℕ) (h : reading_of p more ≡ grown more) where
+  module _ (p : Result Progress Rule) (m : ℕ) (h : reading_of p more ≡ grown more) where
     pub push_open : m ≡ s.len + 1 → reading_of p (take m after) ≡ grown (take s.len s.buffer ++ v ∷ [])
     push_open e = ap (λ k. reading_of p (take k after)) (e ∙ sym one_more) ∙ h ∙ ap grown pushed
 
-    pub push_other : (p ≡ Open → ⊥) → reading_of p (take m after) ≡ grown (take s.len s.buffer ++ v ∷ [])
+    pub push_other : (p ≡ Ok Open → ⊥) → reading_of p (take m after) ≡ grown (take s.len s.buffer ++ v ∷ [])
     push_other n = alike p n (take m after) more ∙ h ∙ ap grown pushed
       where
-        alike : (p : Progress) → (p ≡ Open → ⊥) → (u w : Bytes) → reading_of p u ≡ reading_of p w
-        alike Open n u w = absurd (n refl)
-        alike Ended n u w = refl
-        alike Filling n u w = refl
-        alike (Wrong r) n u w = refl
+        alike : (p : Result Progress Rule) → (p ≡ Ok Open → ⊥) → (u w : Bytes) → reading_of p u ≡ reading_of p w
+        alike (Ok Open) n u w = absurd (n refl)
+        alike (Ok Ended) n u w = refl
+        alike (Ok Filling) n u w = refl
+        alike (Err r) n u w = refl

@@ -8,14 +8,6 @@ third_false a b c d e = sym (and_right a _ (and_right b _ (and_left c d e)))
 pub fourth_false : (a b c d : Bool) → d ≡ false → false ≡ (a && (b && (c && d)))
 fourth_false a b c d e = sym (and_right a _ (and_right b _ (and_right c d e)))
 
--- nothing, where the second or the fourth does not hold
-module _ {X : Type 0} (x y : X) (a b c d : Bool) where
-  pub second_none : b ≡ false → y ≡ cond (a && (b && (c && d))) x y
-  second_none e = sym (cond-false _ x y (and_right a _ (and_left b _ e)))
-
-  pub fourth_none : d ≡ false → y ≡ cond (a && (b && (c && d))) x y
-  fourth_none e = sym (cond-false _ x y (sym (fourth_false a b c d e)))
-
 -- a row, where there is one
 pub some_row : (b : Bool) (o : Option ℕ) (i : ℕ) → Some i ≡ cond b o None → (b ≡ true) × (o ≡ Some i)
 some_row true o i h = (refl, sym h)

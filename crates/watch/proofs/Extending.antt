@@ -96,9 +96,6 @@ module _ (s : Section) (bs : Bytes) (lacks n : ℕ) (x : Bytes) (h : 3 ≤ s.len
   is_laid : full ≡ laid s.len (take n bs) s.buffer
   is_laid = let e = part_long in laid_part s.buffer (take n bs) x s.len (s.len + n - s.len) copied (omega arith)
 
-  pub full_long : length full ≡ 1024
-  full_long = let a = left.0 in let b = left.1 in let o = at_most in let l = s.long in let e = part_long in ap length is_laid ∙ laid_length s.buffer (take n bs) s.len (omega arith) ∙ l
-
   u_length : section_length u ≡ section_length s.buffer
   u_length = length_in_front s.len s.buffer h
 

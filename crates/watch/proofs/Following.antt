@@ -15,14 +15,6 @@ use Rattle.watch.specs.Tables.{at}
 use Rattle.watch.specs.Phases.{sections_from}
 use Rattle.watch.proofs.Rows.{at_set}
 
--- a payload with the start flag whose leading bytes do not offend
-pub start_goes : (ph : Phase) (u : Bytes) → 1 + byte u 0 < length u → None ≡ leading ph (mid_of 1 (1 + byte u 0 - 1) u) →
-    with_start ph u ≡ settled (read_all more (section []) (drop (1 + byte u 0) u))
-start_goes ph u l h =
-    let e : 1 + byte u 0 - 1 ≡ byte u 0 = omega arith in
-    cond-false (leb (length u) (1 + byte u 0)) _ _ (lt-leb (length u) (1 + byte u 0) l)
-    ∙ ap (λ o. started o (drop (1 + byte u 0) u)) (sym (h ∙ ap (λ k. leading ph (take k (drop 1 u))) e))
-
 blank_at : (o : Option ℕ) → at {A = Phase} (replicate 16 unstarted) unstarted o ≡ unstarted
 blank_at None = refl
 blank_at (Some i) = elim (cases_lt i 16) [
@@ -104,11 +96,6 @@ pub carries_from : (es : List Entry) (place : ℕ) (p : Bytes) → sound es p �
     carries es (pid p) (record { place = place; bytes = p }) ≡ true
 carries_from es place p s k h =
     and_from (sound es p) _ s (and_from (is_sections (kind_of es (pid p))) _ (ap is_sections k) (and_from (eqb (pid p) (pid p)) _ (eq-eqb (pid p) (pid p) refl) h))
-
-pub not_sections : (k : Kind) → (k ≡ Sections → ⊥) → is_sections (Some k) ≡ false
-not_sections Pes n = refl
-not_sections Sections n = absurd (n refl)
-not_sections Clock n = refl
 
 sections_listed : (o : Option Kind) → is_sections o ≡ true → listed o ≡ true
 sections_listed None h = absurd (both_ways false refl h)

@@ -5,3 +5,4 @@ pub mod Assembling
 pub mod Following
 pub mod Extending
 pub mod Stuffing
+pub mod ByKind

@@ -91,39 +91,11 @@ module _ (es : List Entry) (r : ℕ) (marks : List (Option Mark)) (y : Placed) (
             ∙ ap (λ v. cond (carries_pcr es q x) v None) (step (carries_pcr es q y) (last_pcr es q xs) (at marks None (row_of es q)) x)
       ]
 
--- rule 27 by its second test, where the first holds
-module _ (rate : ℕ) (last here : Mark) where
-  abbrev off : ℕ → Bool
-  off D = not (leb ((188 * (here.place - last.place) - 1) * 2700000000000) (rate * (100003 * D + 2700000))
-      && leb (rate * (99997 * D)) ((188 * (here.place - last.place) + 1) * 2700000000000 + rate * 2700000))
-
-  off_shape : off_rate rate (placed_of last) (placed_of here) ≡ off ((here.value + 2576980377600 - last.value) % 2576980377600)
-  off_shape = simp zero-add
-
-  pub off_rate_second : (ticks : ℕ) → ticks ≡ (here.value + 2576980377600 - last.value) % 2576980377600 →
-      (188 * (here.place - last.place) - 1) * 2700000000000 ≤ rate * (100003 * ticks + 2700000) →
-      ltb ((188 * (here.place - last.place) + 1) * 2700000000000 + rate * 2700000) (rate * (99997 * ticks)) ≡ off_rate rate (placed_of last) (placed_of here)
-  off_rate_second ticks e h = second _ _ _ _ h ∙ sym (off_shape ∙ ap off (sym e))
-    where
-      other : (z v : ℕ) → ltb v z ≡ not (leb z v)
-      other z v = elim (cases_lt v z) [
-        | inl l ↦ lt-ltb v z l ∙ sym (ap not (lt-leb z v l))
-        | inr l ↦ le-ltb v z l ∙ sym (ap not (le-leb z v l))
-      ]
-
-      second : (x y z v : ℕ) → x ≤ y → ltb v z ≡ not (leb x y && leb z v)
-      second x y z v l = other z v ∙ sym (ap (λ b. not (b && leb z v)) (le-leb x y l))
-
 -- a sound packet with a clock value, on a PID of that kind
 pub carries_from : (es : List Entry) (place : ℕ) (p : Bytes) → sound es p ≡ true → kind_of es (pid p) ≡ Some Clock → has_pcr p ≡ true →
     carries_pcr es (pid p) (record { place = place; bytes = p }) ≡ true
 carries_from es place p s k h =
     and_from (sound es p) _ s (and_from (is_clock (kind_of es (pid p))) _ (ap is_clock k) (and_from (eqb (pid p) (pid p)) _ (eq-eqb (pid p) (pid p) refl) h))
-
-pub not_clock : (k : Kind) → (k ≡ Clock → ⊥) → is_clock (Some k) ≡ false
-not_clock Pes n = refl
-not_clock Sections n = refl
-not_clock Clock n = absurd (n refl)
 
 clock_listed : (o : Option Kind) → is_clock o ≡ true → listed o ≡ true
 clock_listed None h = absurd (both_ways false refl h)

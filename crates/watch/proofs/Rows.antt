@@ -52,14 +52,6 @@ row_same (e ∷ es) q r i h g = elim (cases_Bool (eqb e.pid q)) [
         let k : 0 ≡ i = cc in
         let l = n.2 in omega arith
 
--- a sheet has sixteen rows at most
-pub row_fits : (s : Sheet) (q i : ℕ) → row_of (entries_of s) q ≡ Some i → i < 16
-row_fits s q i h =
-    let l = row_lt (entries_of s) q i h in
-    let n = length-take s.len s.table in
-    let g = s.long in
-    omega arith
-
 module _ {A : Type 0} (rows : List A) (d v : A) (i : ℕ) (l : i < length rows) where
   set_other : (o : Option ℕ) → (o ≡ Some i → ⊥) → at (set rows i v) d o ≡ at rows d o
   set_other None n = refl

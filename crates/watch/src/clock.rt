@@ -8,17 +8,16 @@ ghost use Rattle.watch.specs.Marks.{placed_of, recalled, clock_from};
 ghost use Rattle.laws.proofs.ClockLaw.{clock_law};
 
 use crate::mark::Mark;
-use crate::sound::is_sound;
+use crate::sound::sound_row;
 use crate::watch::Watch;
+use model::clock::CLOCK_VALUES;
 use model::entry::Kind;
 use model::rule::Rule;
 use model::sheet::Sheet;
 use packet::header;
 
-// Clock values count ticks of 27 MHz modulo 300 × 2^33.
-const CYCLE: u64 = 2_576_980_377_600;
-
-// Rules 26 and 27: the clock of a PID. It keeps the last clock value of each, in the order of the sheet.
+// Rules 26 and 27: the clock of a PID. It keeps the last clock value of each, in the order of the sheet: no heap, so as many places as
+// a sheet has entries at most.
 #[derive(Drop)]
 pub struct Clock {
     sheet: Sheet,
@@ -31,9 +30,9 @@ fn elapsed(from: u64, to: u64) -> u64
     ensures { result ≡ (to + 2576980377600 - from) % 2576980377600 }
 {
     if from <= to {
-        (to - from) % CYCLE
+        (to - from) % CLOCK_VALUES
     } else {
-        CYCLE.saturating_sub(from - to)
+        CLOCK_VALUES.saturating_sub(from - to)
     }
 }
 
@@ -79,14 +78,7 @@ fn clock_row(sheet: &Sheet, packet: &[u8; 188]) -> Option<usize>
     if !header::has_pcr(packet) {
         return None;
     }
-    let listed = sheet.find(header::pid(packet))?;
-    if listed.kind != Kind::Clock {
-        return None;
-    }
-    if !is_sound(Kind::Clock, packet) {
-        return None;
-    }
-    Some(listed.place)
+    sound_row(sheet, Kind::Clock, packet)
 }
 
 impl Watch for Clock {
@@ -104,13 +96,9 @@ impl Watch for Clock {
     }
 
     fn observe(&mut self, place: u64, packet: &[u8; 188]) -> Option<Rule> {
-        match clock_row(&self.sheet, packet) {
-            Some(row) => {
-                let value = header::pcr(packet);
-                let here = Mark { place, value };
-                judge(self.sheet.rate(), &mut self.marks[row], here)
-            }
-            None => None,
-        }
+        let row = clock_row(&self.sheet, packet)?;
+        let value = header::pcr(packet);
+        let here = Mark { place, value };
+        judge(self.sheet.rate(), &mut self.marks[row], here)
     }
 }

@@ -8,7 +8,7 @@ ghost use Rattle.watch.specs.Phases.{phase_of, sections_from};
 ghost use Rattle.laws.proofs.SectionsLaw.{sections_law};
 
 use crate::sections::row::Row;
-use crate::sound::is_sound;
+use crate::sound::sound_row;
 use crate::watch::Watch;
 use model::entry::Kind;
 use model::rule::Rule;
@@ -22,7 +22,8 @@ mod reading;
 mod row;
 mod section;
 
-// Rules 28 and 29: the sections of a PID. It keeps where each PID stands, in the order of the sheet.
+// Rules 28 and 29: the sections of a PID. It keeps where each PID stands, in the order of the sheet: no heap, so as many rows as a sheet
+// has entries at most.
 #[derive(Drop)]
 pub struct Sections {
     sheet: Sheet,
@@ -30,7 +31,8 @@ pub struct Sections {
     ghost long: { length rows ≡ 16 },
 }
 
-// The row of a packet that carries section bytes.
+// The row of a packet that carries section bytes, as `clock_row` for the clock: what both do is `sound_row`, and each asks its flag first,
+// which is cheap.
 fn section_row(sheet: &Sheet, packet: &[u8; 188]) -> Option<usize>
     ensures row { (place : ℕ) → result ≡ (if carries (entries_of sheet.now) (pid packet.now) (record { place = place; bytes = packet.now }) then row_of (entries_of sheet.now) (pid packet.now) else None) }
     ensures fits { IfSome result (λ i. i < 16) }
@@ -38,14 +40,7 @@ fn section_row(sheet: &Sheet, packet: &[u8; 188]) -> Option<usize>
     if !header::has_payload(packet) {
         return None;
     }
-    let listed = sheet.find(header::pid(packet))?;
-    if listed.kind != Kind::Sections {
-        return None;
-    }
-    if !is_sound(Kind::Sections, packet) {
-        return None;
-    }
-    Some(listed.place)
+    sound_row(sheet, Kind::Sections, packet)
 }
 
 // Takes the PID of a row on by one of its packets.
@@ -72,9 +67,7 @@ impl Watch for Sections {
     }
 
     fn observe(&mut self, place: u64, packet: &[u8; 188]) -> Option<Rule> {
-        match section_row(&self.sheet, packet) {
-            Some(row) => follow_in(&mut self.rows, row, packet),
-            None => None,
-        }
+        let row = section_row(&self.sheet, packet)?;
+        follow_in(&mut self.rows, row, packet)
     }
 }

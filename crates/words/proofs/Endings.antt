@@ -1,18 +1,10 @@
 -- Texts that end with a kind.
-use Rattle.std.proofs.Common.{◌≡◌, ◌+◌, [], ◌∷◌, ◌++◌, codes, sym, ◌∙◌, append_assoc}
+use Rattle.std.proofs.Common.{◌≡◌, ◌+◌, [], ◌∷◌, ◌++◌, sym, ◌∙◌, append_assoc}
 use Rattle.std.proofs.lemmas.List.{same_from_push}
 use Rattle.model.specs.declared.entry.Kind.{Kind}
-use Rattle.model.specs.declared.entry.Kind.TheVariants.{Pes, Sections, Clock}
 use Rattle.model.specs.Entries.{kind_number}
 use Rattle.model.specs.Packet.{Bytes}
 use Rattle.words.specs.Arguments.{kind_text}
-
--- a text that ends with none of the three ends with no kind
-pub no_kind : (text : Bytes) → ((front : Bytes) → text ≡ front ++ codes ":0" → ⊥) → ((front : Bytes) → text ≡ front ++ codes ":1" → ⊥) → ((front : Bytes) → text ≡ front ++ codes ":2" → ⊥) →
-    (front : Bytes) (k : Kind) → text ≡ front ++ kind_text k → ⊥
-no_kind text a b c front Pes h = a front h
-no_kind text a b c front Sections h = b front h
-no_kind text a b c front Clock h = c front h
 
 -- what stands before a kind is settled
 pub front_same : (a b : Bytes) (j k : Kind) → a ++ kind_text j ≡ b ++ kind_text k → a ≡ b

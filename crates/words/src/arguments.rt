@@ -2,24 +2,29 @@ ghost use Rattle.words.specs.Arguments.{Number, Pid, Rate, Round, Writes, Read, 
 
 use model::entry::{Entry, Kind};
 
+// How each kind ends the text of an entry.
+const ENDINGS: [(&str, Kind); 3] = [
+    (":0", Kind::Pes),
+    (":1", Kind::Sections),
+    (":2", Kind::Clock),
+];
+
 // The byte rate that a text writes.
 pub fn rate(text: &str) -> Option<u32>
     ensures { Read (Rate text.now) result }
 {
-    match u32::from_str_radix(text, 10) {
-        Ok(rate) if rate >= 1 && rate <= 10_000_000 => Some(rate),
-        _ => None,
-    }
+    text.parse::<u32>()
+        .ok()
+        .filter(|rate| (1..=10_000_000).contains(rate))
 }
 
 // The round length that a text writes.
 pub fn round(text: &str) -> Option<u64>
     ensures { Read (Round text.now) result }
 {
-    match u64::from_str_radix(text, 10) {
-        Ok(round) if round % 300 == 0 && round <= 2_576_980_377_300 => Some(round),
-        _ => None,
-    }
+    text.parse::<u64>()
+        .ok()
+        .filter(|round| *round % 300 == 0 && *round <= 2_576_980_377_300)
 }
 
 // The number that a text writes: in hexadecimal after 0x, else in decimal.
@@ -28,7 +33,7 @@ fn number(text: &str) -> Option<u16>
 {
     let number = match text.strip_prefix("0x") {
         Some(digits) => u16::from_str_radix(digits, 16),
-        None => u16::from_str_radix(text, 10),
+        None => text.parse(),
     };
     number.ok()
 }
@@ -36,22 +41,17 @@ fn number(text: &str) -> Option<u16>
 fn pid(text: &str) -> Option<u16>
     ensures { Read (Pid text.now) result }
 {
-    let pid = number(text)?;
-    if pid > 8190 { None } else { Some(pid) }
+    number(text).filter(|pid| *pid <= 8190)
 }
 
 // What stands before the kind that a text ends with, and the kind.
 fn split_kind(text: &str) -> Option<(&str, Kind)>
     ensures { Parted text.now result }
 {
-    if let Some(front) = text.strip_suffix(":0") {
-        return Some((front, Kind::Pes));
-    }
-    if let Some(front) = text.strip_suffix(":1") {
-        return Some((front, Kind::Sections));
-    }
-    if let Some(front) = text.strip_suffix(":2") {
-        return Some((front, Kind::Clock));
+    for (ending, kind) in ENDINGS {
+        if let Some(front) = text.strip_suffix(ending) {
+            return Some((front, kind));
+        }
     }
     None
 }

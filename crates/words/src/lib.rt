@@ -1,5 +1,4 @@
 #![tactic(auto)]
 
-// What the programs say and are told: refusals and rules in words, and arguments.
+// What the programs are told: their arguments.
 pub mod arguments;
-pub mod words;

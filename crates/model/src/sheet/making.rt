@@ -3,15 +3,10 @@ ghost use Rattle.model.specs.Entries.{lawful, kind_of, listed};
 ghost use Rattle.model.specs.Sheets.{made, text_of, bad_timing};
 ghost use Rattle.model.specs.Refusals.{outcome};
 
-use crate::entry::{Entry, Kind};
+use crate::entry::{Entry, NO_ENTRY};
 use crate::refusal::Refusal;
 use crate::sheet::Sheet;
 use crate::sheet::reading::find_in;
-
-const NO_ENTRY: Entry = Entry {
-    pid: 0,
-    kind: Kind::Pes,
-};
 
 // Whether a PID stands among some entries.
 fn is_listed(entries: &[Entry], pid: u16) -> bool
@@ -24,12 +19,9 @@ fn is_listed(entries: &[Entry], pid: u16) -> bool
 fn is_lawful(entries: &[Entry]) -> bool
     ensures { result ≡ lawful entries.now }
 {
-    for i in 0..entries.len() {
-        let pid = entries[i].pid;
-        if pid > 8190 {
-            return false;
-        }
-        if is_listed(&entries[i + 1..], pid) {
+    for (i, entry) in entries.iter().enumerate() {
+        let pid = entry.pid;
+        if pid > 8190 || is_listed(&entries[i + 1..], pid) {
             return false;
         }
     }
@@ -39,7 +31,7 @@ fn is_lawful(entries: &[Entry]) -> bool
 fn is_bad_timing(rate: u32, round: u64) -> bool
     ensures { result ≡ bad_timing rate round }
 {
-    !(rate >= 1 && rate <= 10_000_000) || !(round % 300 == 0 && round <= 2_576_980_377_300)
+    !(1..=10_000_000).contains(&rate) || round % 300 != 0 || round > 2_576_980_377_300
 }
 
 // The entries at the front of a whole table.
@@ -48,9 +40,8 @@ fn table_of(entries: &[Entry]) -> [Entry; 16]
     ensures long { length result ≡ 16 }
     ensures front { take (length entries.now) result ≡ entries.now }
 {
-    let len = entries.len();
     let mut table = [NO_ENTRY; 16];
-    table[0..len].copy_from_slice(entries);
+    table[..entries.len()].copy_from_slice(entries);
     table
 }
 

@@ -1,4 +1,4 @@
-ghost use Rattle.std.specs.Prelude.{◌≡◌};
+ghost use Rattle.std.specs.Prelude.{◌≡◌, ◌<◌, ◌≤◌, length, IfSome};
 ghost use Rattle.model.specs.Entries.{kind_of, row_of};
 ghost use Rattle.model.specs.Sheets.{entries_of, rate_of, round_of, place_in, kind_in};
 
@@ -6,7 +6,7 @@ use crate::entry::{Entry, Kind};
 use crate::sheet::Sheet;
 
 // Where a PID stands among the entries, and its kind.
-#[derive(Clone, Copy)]
+#[derive(Clone, Copy, Debug, PartialEq, Eq)]
 pub struct Listed {
     pub place: usize,
     pub kind: Kind,
@@ -16,6 +16,7 @@ pub struct Listed {
 pub fn find_in(entries: &[Entry], pid: u16) -> Option<Listed>
     ensures place { place_in result ≡ row_of entries.now pid }
     ensures kind { kind_in result ≡ kind_of entries.now pid }
+    ensures within { IfSome result (λ found. found.place < length entries.now) }
 {
     for (place, entry) in entries.iter().enumerate() {
         if entry.pid == pid {
@@ -30,7 +31,8 @@ pub fn find_in(entries: &[Entry], pid: u16) -> Option<Listed>
 
 impl Sheet {
     pub fn entries(&self) -> &[Entry]
-        ensures { result.now ≡ entries_of self.now }
+        ensures list { result.now ≡ entries_of self.now }
+        ensures few { length result.now ≤ 16 }
     {
         &self.table[0..self.len]
     }
@@ -53,6 +55,7 @@ impl Sheet {
     pub fn find(&self, pid: u16) -> Option<Listed>
         ensures place { place_in result ≡ row_of (entries_of self.now) pid }
         ensures kind { kind_in result ≡ kind_of (entries_of self.now) pid }
+        ensures few { IfSome result (λ found. found.place < 16) }
     {
         find_in(self.entries(), pid)
     }

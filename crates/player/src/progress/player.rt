@@ -2,7 +2,8 @@ ghost use Rattle.std.specs.Prelude.{◌≡◌, ◌+◌, ◌-◌, ◌*◌, ◌%�
 
 use crate::progress::Progress;
 use model::sheet::Sheet;
-use verdict::verdict::Checked;
+use verdict::ledger::Tallies;
+use verdict::verdict::Breach;
 
 // Plays a reel round after round, once it is checked. The clock shift is by how many ticks the round begun last is moved.
 #[derive(Drop)]
@@ -11,7 +12,7 @@ pub struct Player<S, W> {
     watch: W,
     sheet: Sheet,
     unit: u32,
-    seen: Option<Checked>,
+    seen: Option<Result<Tallies, Breach>>,
     progress: Progress,
     shift: u64,
     ghost rounds: { progress.begun ≤ 1000000 },

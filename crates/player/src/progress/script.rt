@@ -1,36 +1,35 @@
-use crate::progress::Counts;
+use crate::progress::{Counts, RoundId};
 use model::refusal::Refusal;
 use verdict::verdict::Verdict;
 
-// A call, with the numbers of the token where it takes one.
-#[derive(Clone, Copy)]
+// A call, with the round that its token names where it takes one.
+#[derive(Clone, Copy, Debug, PartialEq, Eq)]
 pub enum Call {
     Check,
     Begin,
     Send,
-    End { unit: u32, round: u32 },
-    GiveUp { unit: u32, round: u32 },
+    End(RoundId),
+    GiveUp(RoundId),
     Question,
 }
 
-#[derive(Clone, Copy)]
+// What a call answered that was not refused.
+#[derive(Clone, Copy, Debug, PartialEq, Eq)]
 pub enum Answer {
-    Unasked,
-    Refused(Refusal),
     Checked(Verdict),
-    Began { unit: u32, round: u32 },
+    Began(RoundId),
     Sent,
     Ended,
     GaveUp,
     Counted(Counts),
 }
 
-// A call with the buffer that it is given, and its answer.
+// A call with the buffer that it is given, and its answer once it was issued.
 #[derive(Drop)]
 pub struct Turn {
     pub call: Call,
     pub buffer: Vec<u8>,
-    pub answer: Answer,
+    pub answer: Option<Result<Answer, Refusal>>,
 }
 
 pub mod run;

@@ -1,6 +1,7 @@
 ghost use Rattle.std.specs.Prelude.{◌≡◌, ◌<◌, ◌≤◌, [], length, slice_index_or};
 ghost use Rattle.model.specs.Sheets.{entries_of, round_of};
-ghost use Rattle.verdict.specs.RoundReels.{fit_rounds, rounds_of, rounds_made, rounds_due};
+ghost use Rattle.verdict.specs.Fitting.{fit_rounds};
+ghost use Rattle.verdict.specs.RoundReels.{rounds_of, rounds_made, rounds_due};
 ghost use Rattle.verdict.specs.Tallies.{round_stamped};
 ghost use Rattle.verdict.specs.RoundLaws.{rounds_whole};
 
@@ -9,14 +10,14 @@ use crate::rounds::Rounds;
 use crate::tallying::tallies;
 use model::refusal::Refusal;
 use model::sheet::Sheet;
-use reel::reel::Reel;
+use reel::reel::{Reel, allow_fetch};
 
 // Whether n rounds of so many packets are a reel.
 fn fit(n: u32, count: usize) -> bool
     requires { count ≤ 1000000000 }
     ensures { result ≡ fit_rounds n count }
 {
-    n >= 1 && n <= 1_000_000 && n as usize * count <= 1_000_000_000
+    (1..=1_000_000).contains(&n) && n as usize * count <= 1_000_000_000
 }
 
 impl<R: Reel> Rounds<R> {
@@ -37,12 +38,6 @@ impl<R: Reel> Rounds<R> {
         })
     }
 
-    fn fits(&self) -> bool
-        ensures { result ≡ fit_rounds self.now.rounds (length (R.Reel.packets self.now.below)) }
-    {
-        fit(self.rounds, self.below.count())
-    }
-
     // Fetches a packet of the reel below and moves it on to a round.
     fn fetch_round(&mut self, round: u32, place: usize, packet: &mut [u8; 188])
         requires { (round ≤ 1000000) × (place < length (R.Reel.packets self.old.below)) }
@@ -51,7 +46,7 @@ impl<R: Reel> Rounds<R> {
         ensures writes { packet.new ≡ round_stamped (entries_of self.old.sheet) (round_of self.old.sheet) self.old.tallies round (slice_index_or (R.Reel.packets self.old.below) place []) }
     {
         let _ = self.below.fetch(place, packet);
-        let ticks = round as u64 * self.sheet.round_length();
+        let ticks = u64::from(round) * self.sheet.round_length();
         restamp(&self.sheet, &self.tallies, round, ticks, packet);
     }
 }
@@ -62,25 +57,12 @@ impl<R: Reel> Reel for Rounds<R> {
     ghost whole = { λ s. rounds_whole (entries_of s.sheet) (round_of s.sheet) s.tallies s.rounds (R.Reel.packets s.below) s.sheet.whole.0 (R.Reel.whole s.below) };
 
     fn count(&self) -> usize {
-        let count = self.below.count();
-        if self.fits() {
-            self.rounds as usize * count
-        } else {
-            count
-        }
+        self.rounds as usize * self.below.count()
     }
 
     fn fetch(&mut self, place: usize, buffer: &mut [u8]) -> Result<(), Refusal> {
-        if !self.fits() {
-            return self.below.fetch(place, buffer);
-        }
-        if buffer.len() != 188 {
-            return Err(Refusal::Buffer);
-        }
         let count = self.below.count();
-        if place >= self.rounds as usize * count {
-            return Err(Refusal::PastEnd);
-        }
+        allow_fetch(self.rounds as usize * count, place, buffer.len())?;
         let mut packet = [0u8; 188];
         self.fetch_round((place / count) as u32, place % count, &mut packet);
         buffer.copy_from_slice(&packet);

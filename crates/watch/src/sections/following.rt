@@ -14,7 +14,7 @@ impl Row {
         ensures { phase_of result ≡ spec.unstarted }
     {
         Row {
-            stage: Stage::Unstarted,
+            stage: Ok(Stage::Unstarted),
             section: Section::new(),
         }
     }

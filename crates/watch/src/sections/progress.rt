@@ -1,7 +1,5 @@
-use model::rule::Rule;
-
-// Where the reading of a payload stands.
-#[derive(Clone, Copy)]
+// Where the reading of a payload stands that breaks no rule so far.
+#[derive(Clone, Copy, Debug, PartialEq, Eq)]
 pub enum Progress {
     // in a section
     Open,
@@ -9,27 +7,25 @@ pub enum Progress {
     Ended,
     // in the bytes of 255 that fill the rest
     Filling,
-    // at an offence
-    Wrong(Rule),
 }
 
 // How many bytes a section took on, and what they brought.
-#[derive(Clone, Copy)]
+#[derive(Clone, Copy, Debug, PartialEq, Eq)]
 pub struct Taken {
     pub count: usize,
     pub progress: Progress,
 }
 
 // What may come after a section's end.
-#[derive(Clone, Copy)]
+#[derive(Clone, Copy, Debug, PartialEq, Eq)]
 pub enum Next {
     Nothing,
     Stuffing,
     More,
 }
 
-// What is known of a PID between two packets.
-#[derive(Clone, Copy)]
+// What is known of a PID between two packets, while it has broken no rule.
+#[derive(Clone, Copy, Debug, PartialEq, Eq)]
 pub enum Stage {
     // no payload has started yet
     Unstarted,
@@ -37,6 +33,4 @@ pub enum Stage {
     Between,
     // one is open
     Inside,
-    // an offence, after which the PID is judged no more
-    Offended(Rule),
 }

@@ -1,13 +1,12 @@
 use Rattle.std.proofs.Common.{◌≡◌, ◌+◌, ◌*◌, List, [], ◌∷◌, ◌++◌, length, get_or, take, sym, ap, ◌∙◌, append-nil, arith, length-take}
-use lib.Seq.{take-length}
 use Rattle.std.proofs.lemmas.List.{take_more}
 use Rattle.model.specs.declared.entry.Entry.{Entry}
 use Rattle.model.specs.Buffers.{laid}
 use Rattle.model.specs.Packet.{Bytes}
 use Rattle.model.specs.File.{entry_bytes, entries_bytes}
-use Rattle.model.proofs.Laying.{laid_laid}
 use Rattle.model.proofs.Searches.{no_entry}
 use Rattle.file.proofs.EntryBytes.{bytes_append, bytes_length}
+use Rattle.file.proofs.Behind.{put_behind}
 use Rattle.file.proofs.puts.put_entries.Goals as goal
 
 pub loop-i-preserved : goal.loop-i-preserved
@@ -18,15 +17,7 @@ loop-i-preserved c =
     let e = get_or es i no_entry in
     let size : length (take i es) ≡ i = simp length-take (omega arith) in
     let place : 4 * i ≡ 0 + length (entries_bytes (take i es)) = (let s = bytes_length (take i es) in omega arith) in
-    c.put_entry.ensures
-    ∙ ap (λ (x : Bytes). laid (4 * i) (entry_bytes e) x) c.loop-i.invariant
-    ∙ laid_laid b (entries_bytes (take i es)) (entry_bytes e) 0 (4 * i) (omega arith) place
+    put_behind b (entries_bytes (take i es)) (entry_bytes e) 0 (4 * i) _ _ _ (omega arith) place (omega arith) c.loop-i.invariant (c.copy_from_slice.ensures.after ∙ c.bytes_of_entry.ensures)
     ∙ ap (λ (x : Bytes). laid 0 (entries_bytes (take i es) ++ x) b) (sym (append-nil (entry_bytes e)))
     ∙ ap (λ (x : Bytes). laid 0 x b) (sym (bytes_append (take i es) (e ∷ [])))
     ∙ ap (λ (x : List Entry). laid 0 (entries_bytes x) b) (sym (take_more es i no_entry c.loop-i-test.true))
-
-pub returns : goal.returns
-returns c =
-    let es = c.args.entries.now in
-    let e : c.loop-i.i ≡ length es = omega arith in
-    c.loop-i.invariant ∙ ap (λ n. laid 0 (entries_bytes (take n es)) c.args.buffer.now) e ∙ ap (λ (x : List Entry). laid 0 (entries_bytes x) c.args.buffer.now) (take-length es)

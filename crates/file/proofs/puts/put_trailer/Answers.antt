@@ -1,8 +1,8 @@
-use Rattle.std.proofs.Common.{◌+◌, ◌-◌, ◌≤◌, ◌++◌, length, refl, ap, ◌∙◌, arith}
-use Rattle.model.specs.Buffers.{laid}
-use Rattle.model.specs.Packet.{Bytes}
+use Rattle.std.proofs.Common.{◌+◌, ◌-◌, ◌≤◌, ◌++◌, length, refl, ◌∙◌, arith}
 use Rattle.model.specs.File.{written, mark}
-use Rattle.model.proofs.Laying.{laid_laid, laid_part}
+use Rattle.model.proofs.Laying.{laid_part}
+use Rattle.file.proofs.Digits.{bytes_written}
+use Rattle.file.proofs.Behind.{put_behind}
 use Rattle.file.proofs.puts.put_trailer.Goals as goal
 
 pub returns : goal.returns
@@ -15,10 +15,8 @@ returns c =
     let count = written 4 t.count in
     let distance = written 4 t.distance in
     let h : i ≤ length b = omega arith in
-    let one = c.put_number.ensures in
-    let two = c.put_number-2.ensures ∙ ap (λ (x : Bytes). laid (i + 4) round x) one ∙ laid_laid b rate round i (i + 4) h refl in
-    let three = c.put_number-3.ensures ∙ ap (λ (x : Bytes). laid (i + 12) count x) two ∙ laid_laid b (rate ++ round) count i (i + 12) h refl in
-    let four = c.put_number-4.ensures ∙ ap (λ (x : Bytes). laid (i + 16) distance x) three ∙ laid_laid b (rate ++ (round ++ count)) distance i (i + 16) h refl in
-    laid_part c.put_number-4.new.buffer mark c.copy_from_slice.new.self (i + 20) (i + 24 - (i + 20)) c.copy_from_slice.ensures.after (omega arith)
-    ∙ ap (λ (x : Bytes). laid (i + 20) mark x) four
-    ∙ laid_laid b (rate ++ (round ++ (count ++ distance))) mark i (i + 20) h refl
+    let one = laid_part b rate _ i (i + 4 - i) (c.copy_from_slice.ensures.after ∙ c.to_be_bytes.ensures ∙ bytes_written 4 t.rate) (omega arith) in
+    let two = put_behind b rate round i (i + 4) (i + 12 - (i + 4)) _ _ h refl (omega arith) one (c.copy_from_slice-2.ensures.after ∙ c.to_be_bytes-2.ensures ∙ bytes_written 8 t.round) in
+    let three = put_behind b (rate ++ round) count i (i + 12) (i + 16 - (i + 12)) _ _ h refl (omega arith) two (c.copy_from_slice-3.ensures.after ∙ c.to_be_bytes-3.ensures ∙ bytes_written 4 t.count) in
+    let four = put_behind b (rate ++ (round ++ count)) distance i (i + 16) (i + 20 - (i + 16)) _ _ h refl (omega arith) three (c.copy_from_slice-4.ensures.after ∙ c.to_be_bytes-4.ensures ∙ bytes_written 4 t.distance) in
+    put_behind b (rate ++ (round ++ (count ++ distance))) mark i (i + 20) (i + 24 - (i + 20)) _ _ h refl (omega arith) four c.copy_from_slice-5.ensures.after

@@ -1,12 +1,12 @@
-use Rattle.std.proofs.Common.{◌≡◌, ℕ, ◌-◌, ◌*◌, ◌/◌, false, length, take, drop, Ok, Result, sym, ap, ◌∙◌}
+use Rattle.std.proofs.Common.{◌≡◌, ℕ, ◌-◌, ◌*◌, ◌/◌, false, length, take, drop, Ok, Result, sym, ap, ◌∙◌, subst}
 use Rattle.std.proofs.lemmas.Result.{err_from_is_err_and}
 use Rattle.model.specs.Packet.{Bytes}
 use Rattle.model.specs.File.{bad_distance, bad_count, last, opened, no_trailer}
 use Rattle.model.specs.Sheets.{SheetText, text_of}
 use Rattle.file.specs.declared.trailer.Trailer.{Trailer}
 use Rattle.file.specs.Reading.{sheet_in}
-use Rattle.file.specs.Trailers.{trailer_of}
-use Rattle.file.proofs.Opening.{trailer_read, opened_distance, opened_sheet, counted, fitting, sheet_slice, slice_front, tail_again, unless_ok}
+use Rattle.file.specs.Trailers.{trailer_of, Ends}
+use Rattle.file.proofs.Opening.{trailer_read, opened_sheet, counted, fitting, sheet_slice, slice_front, tail_again, unless_ok}
 use Rattle.file.proofs.reading.read.Goals as goal
 
 -- what a file is once its trailer, its distance and its count are right
@@ -20,36 +20,25 @@ past f t r a e b k h =
     ∙ ap (λ (x : Trailer). counted x.count (sheet_in ((x.distance - 24) / 4) (take (4 * ((x.distance - 24) / 4)) (last x.distance f)) x.rate x.round)) e
     ∙ sym (opened_sheet f a (ap (bad_distance (length f)) (sym d) ∙ b) (ap (λ (x : Trailer). bad_count (length f - x.distance) x.count) (sym e) ∙ k))
 
-pub returns-then-is_bad_distance : goal.returns-then-is_bad_distance
-returns-then-is_bad_distance c =
+pub returns-in_err-sheet-clause-answers : goal.returns-in_err-sheet-clause-answers
+returns-in_err-sheet-clause-answers c =
     let f = c.args.file.now in
-    let r = trailer_read f c.in-Some.trailer c.in-Some.ensures.answers in
-    record {
-      answers = opened_distance f r.0 (ap (λ (x : Trailer). bad_distance (length f) x.distance) (sym r.1) ∙ sym c.if-is_bad_distance.ensures);
-      again = tt;
-    }
-
-pub returns-in_err-sheet : goal.returns-in_err-sheet
-returns-in_err-sheet c =
-    let f = c.args.file.now in
-    let r = trailer_read f c.in-Some.trailer c.in-Some.ensures.answers in
-    let p = err_from_is_err_and c.from_residual.result c.from_residual.ensures.1 in
-    rw (p.1, p.2) (record {
-      answers = past f c.in-Some.trailer _ r.0 r.1 (sym c.if-is_bad_distance.ensures) (sym c.if-is_bad_count.ensures) c.in_err-sheet.ensures.answers;
-      again = tt;
-    })
+    let r = trailer_read f c.in_ok-trailer.trailer (sym c.in_ok-trailer.ensures.ok_part ∙ c.read_trailer.ensures.answers) in
+    let p = err_from_is_err_and c.from_residual-in_err-sheet.result c.from_residual-in_err-sheet.ensures.1 in
+    rw (p.1, p.2) (past f c.in_ok-trailer.trailer _ r.0 r.1 (sym c.if-is_bad_distance.ensures) (sym c.if-is_bad_count.ensures) c.in_err-sheet.ensures.answers)
 
 pub returns : goal.returns
 returns c =
     let f = c.args.file.now in
-    let t = c.in-Some.trailer in
+    let t = c.in_ok-trailer.trailer in
     let s = text_of c.in_ok-sheet.sheet in
-    let r = trailer_read f t c.in-Some.ensures.answers in
+    let e = c.in_ok-trailer.ensures.ok_part in
+    let r = trailer_read f t (sym e ∙ c.read_trailer.ensures.answers) in
     let bad = sym c.if-is_bad_distance.ensures in
     let g = fitting (length f) t.distance bad in
     let h = unless_ok _ s _ (c.in_ok-sheet.ensures.answers ∙ sheet_slice f t.distance t.rate t.round g) in
     record {
       answers = past f t (Ok s) r.0 r.1 bad (sym c.if-is_bad_count.ensures) c.in_ok-sheet.ensures.answers;
-      again = tail_again f t s g (sym c.if-is_bad_count.ensures) c.in-Some.ensures.again h
+      again = tail_again f t s g (sym c.if-is_bad_count.ensures) (subst (Ends f) e c.read_trailer.ensures.again) h
           (c.in_ok-sheet.ensures.again ∙ slice_front f t.distance g);
     }

@@ -1,10 +1,9 @@
-use Rattle.std.proofs.Common.{◌≡◌, ◌+◌, ◌-◌, ◌*◌, false, ltb, leb, List, [], ◌∷◌, ◌++◌, length, take, sym, ap, ◌∙◌, arith, length-append}
-use Rattle.std.proofs.lemmas.Bool.{le-ltb, and_parts, not-false, leb-true}
+use Rattle.std.proofs.Common.{◌≡◌, ◌+◌, ◌-◌, ◌*◌, false, leb, List, ◌++◌, length, take, sym, ap, ◌∙◌, arith, rules, length-append}
+use Rattle.std.proofs.lemmas.Bool.{and_parts, not-false, leb-true}
 use Rattle.model.specs.declared.entry.Entry.{Entry}
 use Rattle.model.specs.Buffers.{laid}
 use Rattle.model.specs.Packet.{Bytes}
 use Rattle.model.specs.Sheets.{entries_of, rate_of, text_of}
-use Rattle.model.specs.Tests.{first_broken, unless}
 use Rattle.model.specs.File.{FileText, entries_bytes, trailer_bytes, tail_length, tail, bad_number, opened}
 use Rattle.model.proofs.Laying.{laid_laid, laid_take}
 use Rattle.file.proofs.EntryBytes.{bytes_length}
@@ -18,7 +17,7 @@ returns c =
     let s = c.args.sheet.now in
     let n = c.args.count in
     let xs = c.entries-entries.result.now in
-    let e : xs ≡ entries_of s = c.entries-entries.ensures in
+    let e : xs ≡ entries_of s = c.entries-entries.ensures.list in
     let t : FileText = record { sheet = text_of s; count = n } in
     let size = 24 + 4 * length xs in
     let right : bad_number n ≡ false = sym c.if-is_bad_number.ensures in
@@ -37,9 +36,7 @@ returns c =
     ∙ ap (λ (x : Bytes). laid 0 x b) same in
     let front : take size c.put_trailer.new.buffer ≡ tail t = ap (take size) written ∙ ap (λ k. take k (laid 0 (tail t) b)) (sym whole) ∙ laid_take b (tail t) in
     record {
-      answers = sym (ap (λ v. unless (first_broken ((3, v) ∷ (7, ltb (length b) (tail_length (length (entries_of s)))) ∷ [])) (tail_length (length (entries_of s)))) right
-          ∙ ap (λ (x : List Entry). unless (first_broken ((7, ltb (length b) (tail_length (length x))) ∷ [])) (tail_length (length x))) (sym e)
-          ∙ ap (λ v. unless (first_broken ((7, v) ∷ [])) size) (le-ltb (length b) size c.if-buffer-distance.false));
+      answers = search rules;
       writes = written;
       back = λ packets long. ap (λ (x : Bytes). opened (packets ++ x)) front
           ∙ read_back packets t long (leb-true 1 n within.0) (leb-true n 1000000000 within.1) (sheet_short s) s.entries (sheet_timing s) (rate_fits s) (round_fits s);

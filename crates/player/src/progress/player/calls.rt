@@ -9,18 +9,17 @@ ghost use Rattle.player.specs.Players.{standing_of, Same, checked_by, sent_packe
 ghost use Rattle.player.specs.Standings as st;
 
 use crate::progress::player::Player;
-use crate::progress::refusals::{begin_refusal, end_refusal, give_up_refusal, send_refusal};
-use crate::progress::{Counts, Progress, Token};
+use crate::progress::refusals::Standing;
+use crate::progress::{Counts, Progress, RoundId, Token};
+use model::clock::CLOCK_VALUES;
 use model::refusal::Refusal;
 use model::sheet::Sheet;
 use reel::reel::Reel;
 use verdict::check::check_with;
+use verdict::ledger::Tallies;
 use verdict::restamping::restamp;
 use verdict::verdict::Verdict;
 use watch::watch::Watch;
-
-// The number of values of the 27 MHz clock.
-const CLOCK_VALUES: u64 = 2_576_980_377_600;
 
 impl<S: Reel, W: Watch> Player<S, W> {
     pub fn new(reel: S, sheet: Sheet, unit: u32) -> Player<S, W>
@@ -46,15 +45,12 @@ impl<S: Reel, W: Watch> Player<S, W> {
         }
     }
 
-    fn approved(&self) -> bool
-        ensures { result ≡ st.approved_in self.now.seen }
+    fn standing(&self) -> Standing
+        ensures { st.standing_by result ≡ standing_of self.now }
     {
-        match &self.seen {
-            Some(checked) => match checked.verdict {
-                Verdict::Approved => true,
-                Verdict::Breach { .. } => false,
-            },
-            None => false,
+        Standing {
+            approved: matches!(self.seen, Some(Ok(_))),
+            progress: self.progress,
         }
     }
 
@@ -65,14 +61,16 @@ impl<S: Reel, W: Watch> Player<S, W> {
         ensures answers { breach_of result ≡ checked_by self.old.seen (answer (entries_of self.old.sheet) (round_of self.old.sheet) (W.Watch.finding self.old.watch) (S.Reel.packets self.old.reel)) }
         ensures notes { Noted (entries_of self.old.sheet) (S.Reel.packets self.old.reel) self.old.seen result self.new.seen }
     {
-        match self.seen {
-            Some(checked) => checked.verdict,
+        let seen = match self.seen {
+            Some(seen) => seen,
             None => {
-                let checked = check_with(&mut self.reel, &mut self.watch, &self.sheet);
-                self.seen = Some(checked);
-                checked.verdict
+                let seen = check_with(&mut self.reel, &mut self.watch, &self.sheet);
+                self.seen = Some(seen);
+                seen
             }
-        }
+        };
+        seen?;
+        Ok(())
     }
 
     pub fn begin(&mut self) -> Result<Token, Refusal>
@@ -80,9 +78,7 @@ impl<S: Reel, W: Watch> Player<S, W> {
         ensures answers { st.began_of result ≡ rules.answered (rules.refusal self.old.unit (length (S.Reel.packets self.old.reel)) (standing_of self.old) rules.begin) (rules.began self.old.unit self.old.progress.begun) }
         ensures moves { self.new.progress ≡ st.after_begin (st.granted? (rules.refusal self.old.unit (length (S.Reel.packets self.old.reel)) (standing_of self.old) rules.begin)) self.old.progress }
     {
-        if let Some(refusal) = begin_refusal(self.approved(), self.progress) {
-            return Err(refusal);
-        }
+        self.standing().allow_begin()?;
         let round = self.progress.begun;
         if round > 0 {
             self.shift = (self.shift + self.sheet.round_length()) % CLOCK_VALUES;
@@ -90,44 +86,47 @@ impl<S: Reel, W: Watch> Player<S, W> {
         self.progress.begun = round + 1;
         self.progress.place = 0;
         Ok(Token {
-            unit: self.unit,
-            round,
+            id: RoundId {
+                unit: self.unit,
+                round,
+            },
         })
     }
 
-    fn ours(&self, unit: u32, round: u32) -> bool
-        ensures { result ≡ rules.ours self.now.unit self.now.progress.begun unit round }
+    fn is_ours(&self, id: RoundId) -> bool
+        ensures { result ≡ rules.ours self.now.unit self.now.progress.begun id.unit id.round }
     {
-        unit == self.unit && round as u64 + 1 == self.progress.begun as u64
+        id.unit == self.unit && id.round as u64 + 1 == self.progress.begun as u64
     }
 
     pub fn end(&mut self, token: Token) -> Result<(), (Refusal, Token)>
         ensures same { Same self.old self.new }
-        ensures answers { st.closed_of rules.ended result ≡ rules.answered (rules.refusal self.old.unit (length (S.Reel.packets self.old.reel)) (standing_of self.old) (rules.finish token.unit token.round)) rules.ended }
+        ensures answers { st.closed_of rules.ended result ≡ rules.answered (rules.refusal self.old.unit (length (S.Reel.packets self.old.reel)) (standing_of self.old) (rules.finish token.id.unit token.id.round)) rules.ended }
         ensures back { st.Back token result }
-        ensures moves { self.new.progress ≡ st.after_end (st.granted? (rules.refusal self.old.unit (length (S.Reel.packets self.old.reel)) (standing_of self.old) (rules.finish token.unit token.round))) self.old.progress }
+        ensures moves { self.new.progress ≡ st.after_end (st.granted? (rules.refusal self.old.unit (length (S.Reel.packets self.old.reel)) (standing_of self.old) (rules.finish token.id.unit token.id.round))) self.old.progress }
     {
         let n = self.reel.count();
-        let ours = self.ours(token.unit, token.round);
-        if let Some(refusal) = end_refusal(self.approved(), self.progress, ours, n) {
+        let ours = self.is_ours(token.id);
+        if let Err(refusal) = self.standing().allow_end(ours, n) {
             return Err((refusal, token));
         }
-        let Token { unit: _, round: _ } = token;
+        let Token { id: _ } = token;
         self.progress.ended += 1;
         Ok(())
     }
 
+    // As `end`, but for the refusal and what is counted: the token goes back or is spent in between.
     pub fn give_up(&mut self, token: Token) -> Result<(), (Refusal, Token)>
         ensures same { Same self.old self.new }
-        ensures answers { st.closed_of rules.gave_up result ≡ rules.answered (rules.refusal self.old.unit (length (S.Reel.packets self.old.reel)) (standing_of self.old) (rules.give_up token.unit token.round)) rules.gave_up }
+        ensures answers { st.closed_of rules.gave_up result ≡ rules.answered (rules.refusal self.old.unit (length (S.Reel.packets self.old.reel)) (standing_of self.old) (rules.give_up token.id.unit token.id.round)) rules.gave_up }
         ensures back { st.Back token result }
-        ensures moves { self.new.progress ≡ st.after_give_up (st.granted? (rules.refusal self.old.unit (length (S.Reel.packets self.old.reel)) (standing_of self.old) (rules.give_up token.unit token.round))) self.old.progress }
+        ensures moves { self.new.progress ≡ st.after_give_up (st.granted? (rules.refusal self.old.unit (length (S.Reel.packets self.old.reel)) (standing_of self.old) (rules.give_up token.id.unit token.id.round))) self.old.progress }
     {
-        let ours = self.ours(token.unit, token.round);
-        if let Some(refusal) = give_up_refusal(self.approved(), self.progress, ours) {
+        let ours = self.is_ours(token.id);
+        if let Err(refusal) = self.standing().allow_give_up(ours) {
             return Err((refusal, token));
         }
-        let Token { unit: _, round: _ } = token;
+        let Token { id: _ } = token;
         self.progress.given_up += 1;
         Ok(())
     }
@@ -135,14 +134,12 @@ impl<S: Reel, W: Watch> Player<S, W> {
     pub fn send(&mut self, buffer: &mut [u8]) -> Result<(), Refusal>
         ensures keeps { S.Reel.packets self.new.reel ≡ S.Reel.packets self.old.reel }
         ensures same { (self.new.sheet ≡ self.old.sheet) × ((self.new.unit ≡ self.old.unit) × ((self.new.seen ≡ self.old.seen) × (self.new.watch ≡ self.old.watch))) }
-        ensures answers { st.sent_of result ≡ rules.refusal self.old.unit (length (S.Reel.packets self.old.reel)) (standing_of self.old) (rules.send buffer.old) }
-        ensures moves { self.new.progress ≡ st.after_send (st.granted? (st.sent_of result)) self.old.progress }
-        ensures writes { buffer.new ≡ (if st.granted? (st.sent_of result) then sent_packet self.old (S.Reel.packets self.old.reel) else buffer.old) }
+        ensures answers { st.refusal_of result ≡ rules.refusal self.old.unit (length (S.Reel.packets self.old.reel)) (standing_of self.old) (rules.send buffer.old) }
+        ensures moves { self.new.progress ≡ st.after_send (st.granted? (st.refusal_of result)) self.old.progress }
+        ensures writes { buffer.new ≡ (if st.granted? (st.refusal_of result) then sent_packet self.old (S.Reel.packets self.old.reel) else buffer.old) }
     {
         let n = self.reel.count();
-        if let Some(refusal) = send_refusal(self.approved(), self.progress, n, buffer.len()) {
-            return Err(refusal);
-        }
+        self.standing().allow_send(n, buffer.len())?;
         let mut packet = [0u8; 188];
         let _ = self.reel.fetch(self.progress.place, &mut packet);
         self.restamp_now(&mut packet);
@@ -165,12 +162,12 @@ impl<S: Reel, W: Watch> Player<S, W> {
         );
     }
 
-    fn tallies(&self) -> [u8; 16]
+    fn tallies(&self) -> Tallies
         ensures { result ≡ tallies_in self.now.seen }
     {
         match self.seen {
-            Some(checked) => checked.tallies,
-            None => [0u8; 16],
+            Some(Ok(tallies)) => tallies,
+            Some(Err(_)) | None => [0; 16],
         }
     }
 
@@ -178,8 +175,8 @@ impl<S: Reel, W: Watch> Player<S, W> {
         ensures { st.counts_of result ≡ rules.counts (length (S.Reel.packets self.now.reel)) (standing_of self.now) }
     {
         let at = self.progress;
-        let rounds = if at.begun == 0 { 0 } else { at.begun - 1 };
-        let packets = rounds as u64 * self.reel.count() as u64 + at.place as u64;
+        let packets = at.begun.saturating_sub(1) as u64 * self.reel.count() as u64
+            + at.place as u64;
         Counts {
             begun: at.begun,
             ended: at.ended,

@@ -1,4 +1,4 @@
-use Rattle.std.proofs.Common.{◌≡◌, ℕ, ◌+◌, ◌*◌, ◌<◌, ◌≤◌, length, None}
+use Rattle.std.proofs.Common.{◌≡◌, ℕ, ◌+◌, ◌*◌, ◌<◌, ◌≤◌, None}
 use Rattle.model.specs.Watches.{Finding, breach}
 use Rattle.model.specs.Sheets.{entries_of, round_of}
 use Rattle.verdict.specs.Ledgers.{State, Tallied}
@@ -6,9 +6,9 @@ use Rattle.verdict.proofs.check.check_round.Given as goal
 
 abbrev pub invariant-loop-i : goal.invariant-loop-i
 invariant-loop-i g l =
-    (length l.rows ≡ 16)
+    (l.ledger.sheet ≡ l.initial.ledger.sheet)
     × (g.R.Reel.packets l.reel ≡ g.R.Reel.packets l.initial.reel)
-    × ((f : Finding) → ((1 ≤ l.round) → Tallied (entries_of l.sheet) (g.R.Reel.packets l.initial.reel) l.tallies) →
-    State (entries_of l.sheet) (round_of l.sheet) f (g.R.Reel.packets l.initial.reel) (l.round * l.n) l.initial.rows (g.W.Watch.finding l.initial.watch) →
-    State (entries_of l.sheet) (round_of l.sheet) f (g.R.Reel.packets l.initial.reel) (l.round * l.n + l.i) l.rows (g.W.Watch.finding l.watch)
-    × ((k : ℕ) → k < l.i → breach (entries_of l.sheet) (round_of l.sheet) f (g.R.Reel.packets l.initial.reel) (l.round * l.n + k) ≡ None))
+    × ((f : Finding) → ((1 ≤ l.round) → Tallied (entries_of l.initial.ledger.sheet) (g.R.Reel.packets l.initial.reel) l.tallies) →
+    State (entries_of l.initial.ledger.sheet) (round_of l.initial.ledger.sheet) f (g.R.Reel.packets l.initial.reel) (l.round * l.n) l.initial.ledger.rows (g.W.Watch.finding l.initial.watch) →
+    State (entries_of l.initial.ledger.sheet) (round_of l.initial.ledger.sheet) f (g.R.Reel.packets l.initial.reel) (l.round * l.n + l.i) l.ledger.rows (g.W.Watch.finding l.watch)
+    × ((k : ℕ) → k < l.i → breach (entries_of l.initial.ledger.sheet) (round_of l.initial.ledger.sheet) f (g.R.Reel.packets l.initial.reel) (l.round * l.n + k) ≡ None))

@@ -4,8 +4,8 @@ use Rattle.model.specs.Sheets.{entries_of}
 use Rattle.verdict.specs.Ledgers.{Knows}
 use Rattle.verdict.proofs.tallying.tallies.Given as goal
 
--- the rows know the packets so far
+-- the ledger knows the packets so far
 abbrev pub invariant-loop-i : goal.invariant-loop-i
 invariant-loop-i g l =
     (g.R.Reel.packets l.reel ≡ g.R.Reel.packets l.initial.reel)
-    × Knows (entries_of l.sheet) (before (λ k. get_or (g.R.Reel.packets l.initial.reel) k []) l.i) l.rows
+    × ((l.ledger.sheet ≡ l.sheet) × Knows (entries_of l.sheet) (before (λ k. get_or (g.R.Reel.packets l.initial.reel) k []) l.i) l.ledger.rows)

@@ -11,9 +11,3 @@ returns-then-not-payload_unit_start c =
     let p = c.args.packet.now in
     let es = entries_of c.args.sheet.now in
     third_false (sound es p) (is_pes (kind_of es (pid p))) (payload_unit_start p) (has_payload p) (sym c.if-not-payload_unit_start.ensures)
-
-pub returns-then-not-has_payload : goal.returns-then-not-has_payload
-returns-then-not-has_payload c =
-    let p = c.args.packet.now in
-    let es = entries_of c.args.sheet.now in
-    fourth_false (sound es p) (is_pes (kind_of es (pid p))) (payload_unit_start p) (has_payload p) (sym c.if-not-has_payload.ensures)

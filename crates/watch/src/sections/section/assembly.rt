@@ -1,8 +1,8 @@
-ghost use Rattle.std.specs.Prelude.{◌≡◌, ◌+◌, ◌-◌, ◌<◌, ◌≤◌, [], ◌∷◌, ◌++◌, length, take, if◌then◌else◌, nat_eq};
+ghost use Rattle.std.specs.Prelude.{◌≡◌, ◌+◌, ◌-◌, ◌<◌, ◌≤◌, [], ◌∷◌, ◌++◌, length, IfOk, if◌then◌else◌, nat_eq};
 ghost use Rattle.model.specs.Crc.{crc32};
 ghost use Rattle.model.specs.Packet.{Bytes};
-ghost use Rattle.model.specs.Sections.{Next as After, section_length, grown, read_all, section, ended, wrong};
-ghost use Rattle.watch.specs.Readings.{reading_of};
+ghost use Rattle.model.specs.Sections.{section_length, grown, section, ended, wrong};
+ghost use Rattle.watch.specs.Readings.{reading_of, Takes};
 ghost use Rattle.watch.specs.Assembled.{bytes_of};
 
 use crate::sections::progress::{Progress, Taken};
@@ -10,13 +10,13 @@ use crate::sections::section::Section;
 use model::rule::Rule;
 use packet::crc::crc32;
 
-fn open_if(lawful: bool) -> Progress
+fn open_if(lawful: bool) -> Result<Progress, Rule>
     ensures { (u : Bytes) → reading_of result u ≡ (if lawful then section u else wrong 28) }
 {
     if lawful {
-        Progress::Open
+        Ok(Progress::Open)
     } else {
-        Progress::Wrong(Rule::Sections)
+        Err(Rule::Sections)
     }
 }
 
@@ -29,23 +29,23 @@ fn section_length(bytes: &[u8]) -> usize
 }
 
 // What the last byte of a whole section brings.
-fn checked(bytes: &[u8]) -> Progress
+fn checked(bytes: &[u8]) -> Result<Progress, Rule>
     ensures { (u : Bytes) → reading_of result u ≡ (if nat_eq (crc32 bytes.now) 0 then ended else wrong 29) }
 {
     if crc32(bytes) == 0 {
-        Progress::Ended
+        Ok(Progress::Ended)
     } else {
-        Progress::Wrong(Rule::Crc)
+        Err(Rule::Crc)
     }
 }
 
 // What the newest byte of a section, the last of these, brings.
-fn progress_of(bytes: &[u8]) -> Progress
+fn progress_of(bytes: &[u8]) -> Result<Progress, Rule>
     ensures { reading_of result bytes.now ≡ grown bytes.now }
 {
     let len = bytes.len();
     if len == 0 {
-        return Progress::Open;
+        return Ok(Progress::Open);
     }
     if len == 1 {
         return open_if(bytes[0] <= 254);
@@ -58,7 +58,7 @@ fn progress_of(bytes: &[u8]) -> Progress
         return open_if(section_length >= 9 && section_length <= 1021);
     }
     if len != 3 + section_length {
-        return Progress::Open;
+        return Ok(Progress::Open);
     }
     checked(bytes)
 }
@@ -80,13 +80,13 @@ impl Section {
     }
 
     // Takes on one more byte and says what it brings. Only an open section keeps its bytes.
-    pub fn push(&mut self, byte: u8) -> Progress
+    pub fn push(&mut self, byte: u8) -> Result<Progress, Rule>
         ensures { reading_of result (bytes_of self.new) ≡ grown (bytes_of self.old ++ byte ∷ []) }
     {
         let len = self.len + 1;
         self.buffer[self.len] = byte;
         let progress = progress_of(&self.buffer[0..len]);
-        self.len = if let Progress::Open = progress {
+        self.len = if let Ok(Progress::Open) = progress {
             len
         } else {
             0
@@ -103,16 +103,14 @@ impl Section {
     }
 
     // Takes on the first of some bytes, or as many as the section lacks once its length is known, and says what they bring.
-    pub fn take(&mut self, bytes: &[u8]) -> Taken
+    pub fn take(&mut self, bytes: &[u8]) -> Result<Taken, Rule>
         requires { 1 ≤ length bytes.now }
-        ensures some { (1 ≤ result.count) × (result.count ≤ length bytes.now) }
-        ensures reads { (n : After) → reading_of result.progress (bytes_of self.new) ≡ read_all n (section (bytes_of self.old)) (take result.count bytes.now) }
+        ensures some { IfOk result (λ taken. (1 ≤ taken.count) × (taken.count ≤ length bytes.now)) }
+        ensures reads { Takes (bytes_of self.old) bytes.now result (bytes_of self.new) }
     {
         if self.len < 3 {
-            return Taken {
-                count: 1,
-                progress: self.push(bytes[0]),
-            };
+            let progress = self.push(bytes[0])?;
+            return Ok(Taken { count: 1, progress });
         }
         let lacks = self.lacks();
         let count = bytes.len().min(lacks);
@@ -120,15 +118,13 @@ impl Section {
         self.buffer[self.len..end].copy_from_slice(&bytes[0..count]);
         if count < lacks {
             self.len = end;
-            return Taken {
+            return Ok(Taken {
                 count,
                 progress: Progress::Open,
-            };
+            });
         }
         self.len = 0;
-        Taken {
-            count,
-            progress: checked(&self.buffer[0..end]),
-        }
+        let progress = checked(&self.buffer[0..end])?;
+        Ok(Taken { count, progress })
     }
 }

@@ -2,7 +2,8 @@ use Rattle.std.proofs.Common.{◌≡◌, ℕ, ◌*◌, true, length, Ok, Err, sy
 use Rattle.std.proofs.lemmas.Bool.{cond-true}
 use Rattle.model.specs.Runs.{Packets, run}
 use Rattle.model.specs.Sheets.{entries_of, round_of}
-use Rattle.verdict.specs.RoundReels.{fit_rounds, first_of, rounds_by}
+use Rattle.verdict.specs.Fitting.{fit_rounds}
+use Rattle.verdict.specs.RoundReels.{first_of, rounds_by}
 use Rattle.verdict.specs.RoundLaws.{rounds_run}
 use Rattle.verdict.proofs.rounds.Rounds.new.Goals as goal
 

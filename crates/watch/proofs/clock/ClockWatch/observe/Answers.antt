@@ -1,5 +1,6 @@
-use Rattle.std.proofs.Common.{◌≡◌, ℕ, ◌<◌, false, length, get_or, set, Some, None, ap, ◌∙◌, arith}
+use Rattle.std.proofs.Common.{◌≡◌, ℕ, ◌<◌, false, length, get_or, set, Some, None, ap, ◌∙◌, arith, rules}
 use Rattle.model.specs.Packet.{pid}
+use Rattle.model.specs.Rules.{numbered}
 use Rattle.model.specs.Entries.{row_of}
 use Rattle.model.specs.Clock.{carries_pcr, judged}
 use Rattle.model.specs.Sheets.{entries_of, rate_of}
@@ -11,17 +12,17 @@ use Rattle.watch.proofs.Rows.{no_row}
 use Rattle.watch.proofs.Recalling.{recalls_here, recalls_more, recalls_same, recalls_nothing, carries_listed}
 use Rattle.watch.proofs.clock.ClockWatch.observe.Goals as goal
 
-pub returns-in-Some : goal.returns-in-Some
-returns-in-Some c =
+pub returns : goal.returns
+returns c =
     let p = c.args.packet.now in
     let s = c.args.self.now.sheet in
     let es = entries_of s in
     let marks = c.args.self.now.marks in
-    let i = c.in-Some.row in
+    let i = c.in_ok-row.row in
     let y : Placed = record { place = c.args.place; bytes = p } in
     let v : ℕ → Mark = λ n. record { place = c.args.place; value = n } in
-    let found = some_row (carries_pcr es (pid p) y) (row_of es (pid p)) i (c.in-Some.ensures.row c.args.place) in
-    let l : i < length marks = let a = c.args.self.now.long in let b = c.in-Some.ensures.fits in omega arith in
+    let found = some_row (carries_pcr es (pid p) y) (row_of es (pid p)) i (c.in_ok-row.ensures.row c.args.place) in
+    let l : i < length marks = let a = c.args.self.now.long in let b = c.in_ok-row.ensures.fits in omega arith in
     record {
       answers = c.judge.ensures.found
           ∙ ap (λ n. judged n (recalled (get_or marks i None)) (placed_of (v c.pcr-value.result))) c.rate.ensures
@@ -32,14 +33,14 @@ returns-in-Some c =
           ∙ recalls_more es (rate_of s) marks y i l found.0 found.1 xs x;
     }
 
-pub returns-in-None : goal.returns-in-None
-returns-in-None c =
+pub returns-in_err-row : goal.returns-in_err-row
+returns-in_err-row c =
     let p = c.args.packet.now in
     let s = c.args.self.now.sheet in
     let es = entries_of s in
     let y : Placed = record { place = c.args.place; bytes = p } in
-    let none : carries_pcr es (pid p) y ≡ false = no_row es (pid p) (carries_pcr es (pid p) y) (carries_listed es (pid p) y) (c.in-None.ensures.row c.args.place) in
+    let none : carries_pcr es (pid p) y ≡ false = no_row es (pid p) (carries_pcr es (pid p) y) (carries_listed es (pid p) y) (c.in_err-row.ensures.row c.args.place) in
     record {
-      answers = recalls_nothing es (rate_of s) c.args.self.now.marks y none;
+      answers = (let e : c.from_residual.result ≡ None = search rules in ap numbered e) ∙ recalls_nothing es (rate_of s) c.args.self.now.marks y none;
       learns = recalls_same es (rate_of s) c.args.self.now.marks y none;
     }

@@ -9,7 +9,7 @@ use Rattle.player.specs.declared.progress.script.Turn.{Turn}
 use Rattle.player.specs.Standings.{standing_at, approved_in}
 use Rattle.player.specs.Scripts.{After, view, history_of}
 use Rattle.verdict.proofs.Sheets.{whole_round}
-use Rattle.player.proofs.Scripting.{rest_more, history_more, history_all, turned_more, turned_all}
+use Rattle.player.proofs.Scripting.{rest_more, history_more, history_all, turned_more}
 use Rattle.player.proofs.Keeping.{kept, new_sees}
 use Rattle.player.proofs.progress.script.run.run_calls.Goals as goal
 
@@ -48,8 +48,8 @@ loop-turn-preserved g c =
           (c.issue.ensures.after s f ps c.args.unit (history_of (take i xs) (take i ys)) c.loop-turn.invariant.2),
     )
 
-pub returns : goal.returns
-returns g c =
+pub returns-clause-kept : goal.returns-clause-kept
+returns-clause-kept g c =
     let xs : List Turn = c.args.turns.now in
     let ys : List Turn = c.loop-turn.turns in
     let i : ℕ = c.loop-turn.turn-index in
@@ -59,8 +59,5 @@ returns g c =
     kept (entries_of s) (round_of s) (g.W.Watch.fresh s) (g.S.Reel.packets c.new-player.result.reel) (g.met.S.Reel.whole c.new-player.result.reel) c.args.unit (history_of xs ys)
     (decided (entries_of s) (round_of s) (whole_round s) (g.W.Watch.fresh s) (g.met.W.Watch.rounds s) (g.S.Reel.packets c.new-player.result.reel) (g.met.S.Reel.whole c.new-player.result.reel))
     (subst (rules.Lawful (entries_of s) (round_of s) (g.W.Watch.fresh s) (g.S.Reel.packets c.new-player.result.reel) c.args.unit) (history_all xs ys i c.loop-turn-test.false c.loop-turn.auto.turns) c.loop-turn.invariant.2.lawful) in
-    record {
-      turned = turned_all xs ys i c.loop-turn-test.false c.loop-turn.auto.turns c.loop-turn.invariant.1;
-      kept = subst (λ qs. P c.args.sheet qs) (ap g.S.Reel.packets c.new-player.ensures.holds.0)
-          (subst (λ t. P t (g.S.Reel.packets c.new-player.result.reel)) c.new-player.ensures.holds.1.0 k);
-    }
+    subst (λ qs. P c.args.sheet qs) (ap g.S.Reel.packets c.new-player.ensures.holds.0)
+    (subst (λ t. P t (g.S.Reel.packets c.new-player.result.reel)) c.new-player.ensures.holds.1.0 k)
