@@ -11,7 +11,7 @@ use model::entry::Kind;
 use packet::moving::move_on_as;
 use packet::payload::payload_of_kind;
 
-// How long the payload of a packet of a PID of the clock kind is; 1,000 for an unsound one.
+// How long the payload of a packet of a PID of the clock kind is; 1,000 for an unsound one, as C has numbers only.
 #[unsafe(no_mangle)]
 pub extern "C" fn bench_payload(packet: &[u8; 188]) -> usize
     ensures { Under (Some Kind.Clock) packet.now (λ es. result ≡ size_of (payload_or es packet.now)) }

@@ -1,7 +1,7 @@
 // Packets and reels to try: those of the worked cases, and generated ones.
 ghost use Rattle.std.specs.Prelude.{◌<◌};
 
-use crate::other::{CLOCK_VALUES, Packet, STAMP_VALUES};
+use crate::other::{CLOCK_VALUES, Packet, STAMP_VALUES, put_clock, stamp_bytes};
 use crate::sections::crc;
 use model::entry::Kind;
 use std::alloc::{AllocError, Global};
@@ -31,11 +31,7 @@ impl Numbers {
     }
 
     pub fn kind(&mut self) -> Kind {
-        match self.below(3) {
-            0 => Kind::Pes,
-            1 => Kind::Sections,
-            _ => Kind::Clock,
-        }
+        Kind::try_from(self.below(3) as u8).unwrap_or(Kind::Clock)
     }
 }
 
@@ -55,14 +51,9 @@ pub fn empty(counter: u8) -> Packet {
 
 // The same with a clock value.
 pub fn clock(counter: u8, value: u64) -> Packet {
-    let value = value % CLOCK_VALUES;
-    let base = value / 300;
-    let [high, low] = ((value % 300) as u16).to_be_bytes();
     let mut packet = empty(counter);
     packet[5] = 0x10;
-    packet[6..10].copy_from_slice(&((base / 2) as u32).to_be_bytes());
-    packet[10] = (base % 2) as u8 * 128 | 0x7E | high;
-    packet[11] = low;
+    put_clock(&mut packet, value);
     packet
 }
 
@@ -74,13 +65,11 @@ pub fn filler() -> Packet {
 
 // A packet that begins a PES packet with a PTS.
 pub fn stamped(counter: u8, value: u64) -> Packet {
-    let high = (value >> 30 & 7) as u8;
-    let [b, c] = ((value >> 15 & 0x7FFF) as u16 * 2 + 1).to_be_bytes();
-    let [d, e] = ((value & 0x7FFF) as u16 * 2 + 1).to_be_bytes();
     let mut packet = plain(counter);
     packet[1] = 0x41;
     packet[4..8].copy_from_slice(&[0, 0, 1, 0xE0]);
-    packet[10..18].copy_from_slice(&[0x80, 0x80, 5, 0x21 | high << 1, b, c, d, e]);
+    packet[10..13].copy_from_slice(&[0x80, 0x80, 5]);
+    packet[13..18].copy_from_slice(&stamp_bytes(0x20, value));
     packet
 }
 
@@ -108,9 +97,7 @@ pub fn section_reel(heap: Global, length: u16) -> Result<Vec<Packet>, AllocError
         let mut packet = [255u8; 188];
         let second = if counter == 0 { 0x41 } else { 1 };
         packet[..4].copy_from_slice(&[0x47, second, 0, 0x10 + (counter % 16) as u8]);
-        for (place, byte) in packet[4..].iter_mut().zip(bytes) {
-            *place = *byte;
-        }
+        packet[4..4 + bytes.len()].copy_from_slice(bytes);
         reel.push(packet)?;
     }
     Ok(reel)

@@ -10,7 +10,7 @@ pub type Packet = [u8; 188];
 // The PID of filler.
 pub const NULL: u16 = 8191;
 
-// How many values a time stamp has, in ticks of 90 kHz.
+// How many values a time stamp has, in ticks of 90 kHz: a number of this implementation's own, as the next.
 pub const STAMP_VALUES: u64 = 1 << 33;
 
 // How many values the clock has, in ticks of 27 MHz.
@@ -72,6 +72,24 @@ pub fn payload_mut(packet: &mut Packet) -> &mut [u8] {
 
 fn clock_extension(packet: &Packet) -> u16 {
     u16::from_be_bytes([packet[10] & 1, packet[11]])
+}
+
+// Writes a clock value, modulo their number, over the one that stands there.
+pub fn put_clock(packet: &mut Packet, value: u64) {
+    let value = value % CLOCK_VALUES;
+    let base = value / 300;
+    let [high, low] = ((value % 300) as u16).to_be_bytes();
+    packet[6..10].copy_from_slice(&((base / 2) as u32).to_be_bytes());
+    packet[10] = (base % 2) as u8 * 128 | packet[10] & 0x7E | high;
+    packet[11] = low;
+}
+
+// The five bytes of a time stamp, behind the four bits of its prefix.
+pub fn stamp_bytes(prefix: u8, value: u64) -> [u8; 5] {
+    let high = (value >> 30 & 7) as u8;
+    let [b, c] = ((value >> 15 & 0x7FFF) as u16 * 2 + 1).to_be_bytes();
+    let [d, e] = ((value & 0x7FFF) as u16 * 2 + 1).to_be_bytes();
+    [prefix & 0xF0 | high << 1 | 1, b, c, d, e]
 }
 
 // The clock value, in ticks of 27 MHz.

@@ -1,7 +1,7 @@
 // The check and the restamping of the further implementation.
 use crate::other::{
     CLOCK_VALUES, NULL, Packet, STAMP_VALUES, Seen, clock, clock_rules, continuity, has_clock,
-    has_payload, kind, payload_mut, pes_start, pid, stamp_count,
+    has_payload, kind, payload_mut, pes_start, pid, put_clock, stamp_bytes, stamp_count,
 };
 use crate::sections::{Stop, sections};
 use model::entry::{Entry, Kind};
@@ -15,21 +15,13 @@ fn moved_stamp([a, b, c, d, e]: [u8; 5], ticks: u64) -> [u8; 5] {
     let middle = u64::from(u16::from_be_bytes([b, c]) >> 1);
     let low = u64::from(u16::from_be_bytes([d, e]) >> 1);
     let value = ((high << 30) + (middle << 15) + low + ticks % STAMP_VALUES) % STAMP_VALUES;
-    let high = (value >> 30) as u8;
-    let [b, c] = ((value >> 15 & 0x7FFF) as u16 * 2 + 1).to_be_bytes();
-    let [d, e] = ((value & 0x7FFF) as u16 * 2 + 1).to_be_bytes();
-    [a & 0xF0 | high << 1 | 1, b, c, d, e]
+    stamp_bytes(a, value)
 }
 
 // Moves a packet's clock value on by some ticks of 27 MHz.
 fn move_clock(packet: &mut Packet, ticks: u64) {
-    let value = (clock(packet) + ticks % CLOCK_VALUES) % CLOCK_VALUES;
-    let base = value / 300;
-    let [high, low] = ((value % 300) as u16).to_be_bytes();
-    let reserved = packet[10] & 0x7E;
-    packet[6..10].copy_from_slice(&((base / 2) as u32).to_be_bytes());
-    packet[10] = (base % 2) as u8 * 128 | reserved | high;
-    packet[11] = low;
+    let value = clock(packet) + ticks % CLOCK_VALUES;
+    put_clock(packet, value);
 }
 
 // How many packets of a PID count in a reel.

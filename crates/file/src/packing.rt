@@ -59,6 +59,7 @@ pub fn pack(packets: &mut Vec<u8>, sheet: &Sheet) -> Result<(), PackError>
     if size % 188 != 0 {
         return Err(PackError::Refused(Refusal::Count));
     }
+    // no heap but for the packets, which grow once: the tail is made in fixed memory
     let mut tail = [0u8; LONGEST_TAIL];
     let len = write_tail(sheet, size / 188, &mut tail)?;
     packets.extend_from_slice(&tail[..len])?;

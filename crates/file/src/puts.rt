@@ -19,6 +19,7 @@ pub fn put_entries(buffer: &mut [u8], entries: &[Entry])
     requires { 4 * length entries.now ≤ length buffer.old }
     ensures { buffer.new ≡ laid 0 (entries_bytes entries.now) buffer.old }
 {
+    // by index: after `chunks_mut` a proof knows no byte of the buffer
     for (i, entry) in entries.iter().enumerate() {
         buffer[4 * i..4 * i + 4].copy_from_slice(&bytes_of_entry(*entry));
     }

@@ -1,6 +1,6 @@
 -- Bytes written into a buffer, one part after the other.
-use Rattle.std.proofs.Common.{◌≡◌, ℕ, suc, ◌+◌, ◌<◌, ◌≤◌, List, [], ◌∷◌, ◌++◌, length, get_or, take, drop, set, sym, ap, ◌∙◌, append_assoc, add_assoc, add-one, arith, length-append, length-drop, take-append-drop, length-take, drop-drop, take_at, drop_at}
-use lib.Seq.{take-append_seam, set-append_seam, split_at}
+use Rattle.std.proofs.Common.{◌≡◌, ℕ, ◌+◌, ◌≤◌, List, ◌++◌, length, take, drop, sym, ap, ◌∙◌, append_assoc, add_assoc, arith, length-append, length-drop, length-take, drop-drop, take_at, drop_at}
+use lib.Seq.{take-append_seam}
 use borrow.Rule.Slice.PartMut.{put_mid}
 use Rattle.model.specs.Buffers.{laid}
 
@@ -10,10 +10,6 @@ module _ {A : Type 0} where
 
   pub laid_length : (b xs : List A) (i : ℕ) → i + length xs ≤ length b → length (laid i xs b) ≡ length b
   laid_length b xs i h = simp (length-append, length-take, length-drop) (omega arith)
-
-  -- nothing written
-  pub laid_none : (b : List A) (i : ℕ) → laid i [] b ≡ b
-  laid_none b i = (let e : i + 0 ≡ i = omega arith in ap (λ n. take i b ++ drop n b) e) ∙ take-append-drop i b
 
   -- one part behind another
   pub laid_laid : (b xs ys : List A) (i j : ℕ) → i ≤ length b → j ≡ i + length xs → laid j ys (laid i xs b) ≡ laid i (xs ++ ys) b
@@ -31,23 +27,8 @@ module _ {A : Type 0} where
       ∙ ap (λ (x : List A). (take i b ++ xs) ++ (ys ++ x)) q
       ∙ append_assoc (take i b) xs _ ∙ ap (λ (x : List A). take i b ++ x) (sym (append_assoc xs ys _))
 
-  -- one element
-  pub laid_one : (b : List A) (i : ℕ) (v : A) → i < length b → set b i v ≡ laid i (v ∷ []) b
-  laid_one b i v h =
-      ap (λ (x : List A). set x i v) (split_at b i v h)
-      ∙ ap (λ n. set (take i b ++ (get_or b i v ∷ drop (suc i) b)) n v) (sym (front_length b i (omega arith)))
-      ∙ set-append_seam (take i b) (get_or b i v) (drop (suc i) b) v
-      ∙ ap (λ n. take i b ++ (v ∷ drop n b)) (sym (add-one i))
-
   pub laid_take : (b xs : List A) → take (length xs) (laid 0 xs b) ≡ xs
   laid_take b xs = take-append_seam xs _
-
-  -- one element behind a part
-  pub laid_push : (b xs : List A) (i j : ℕ) (v : A) → j ≡ i + length xs → j < length b → set (laid i xs b) j v ≡ laid i (xs ++ (v ∷ [])) b
-  laid_push b xs i j v e h =
-      let k : i + length xs ≤ length b = omega arith in
-      let g : j < length (laid i xs b) = rw (laid_length b xs i k) h in
-      laid_one (laid i xs b) j v g ∙ laid_laid b xs (v ∷ []) i j (omega arith) e
 
   -- a part that was lent and written whole
   pub laid_part : (b xs ys : List A) (i k : ℕ) → ys ≡ xs → k ≡ length xs → put_mid i k b ys ≡ laid i xs b

@@ -75,3 +75,5 @@ impl fmt::Display for Rule {
         f.write_str(self.words())
     }
 }
+
+impl Error for Rule {}

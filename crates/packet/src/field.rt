@@ -7,19 +7,17 @@ ghost use Rattle.packet.specs.Fields.{set_pcr_field};
 pub const STAMP_VALUES: u64 = 8_589_934_592;
 
 // Writes a clock value into its field, six bytes. The reserved bits stay. Fields are slices, as they are parts of a packet or payload at
-// places that are counted: arrays would be one more conversion at each call.
+// places that are counted: arrays would be one more conversion at each call. A stamp is a number below 2^33 that one caller makes: a type
+// of its own would say no more.
 pub fn put_pcr(field: &mut [u8], value: u64)
     requires { (length field.old ≡ 6) × (value < W) }
     ensures { field.new ≡ set_pcr_field value field.old }
 {
     let base = value / 300;
-    let extension = value % 300;
-    field[0] = (base / 33_554_432) as u8;
-    field[1] = (base / 131_072 % 256) as u8;
-    field[2] = (base / 512 % 256) as u8;
-    field[3] = (base / 2 % 256) as u8;
-    field[4] = (base % 2 * 128) as u8 + field[4] / 2 % 64 * 2 + (extension / 256) as u8;
-    field[5] = (extension % 256) as u8;
+    let [high, low] = ((value % 300) as u16).to_be_bytes();
+    field[..4].copy_from_slice(&((base / 2) as u32).to_be_bytes());
+    field[4] = (base % 2 * 128) as u8 + field[4] / 2 % 64 * 2 + high;
+    field[5] = low;
 }
 
 // The 33 bits of a stamp, five bytes.
@@ -28,14 +26,13 @@ fn stamp_of(field: &[u8]) -> u64
     ensures value { result ≡ stamp field.now 0 }
     ensures small { result < 2 ^ 33 }
 {
-    (field[0] / 2 % 8) as u64 * 1_073_741_824
-        + field[1] as u64 * 4_194_304
-        + (field[2] / 2) as u64 * 32_768
-        + field[3] as u64 * 128
-        + (field[4] / 2) as u64
+    let high = u64::from(field[0] / 2 % 8);
+    let middle = u64::from(u16::from_be_bytes([field[1], field[2]]) / 2);
+    let low = u64::from(u16::from_be_bytes([field[3], field[4]]) / 2);
+    (high * 32_768 + middle) * 32_768 + low
 }
 
-// Writes a stamp into its five bytes. The prefix and the marker bits stay.
+// Writes a stamp into its five bytes. The prefix and the marker bits stay, so they are written one by one.
 fn put_stamp(field: &mut [u8], value: u64)
     requires { (length field.old ≡ 5) × (value < 2 ^ 33) }
     ensures { field.new ≡ set_stamp 0 value field.old }

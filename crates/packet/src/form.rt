@@ -1,4 +1,4 @@
-ghost use Rattle.std.specs.Prelude.{◌≡◌, ◌≤◌, true, List, [], ◌∷◌, drop};
+ghost use Rattle.std.specs.Prelude.{◌≡◌, ◌≤◌, true, [], ◌∷◌, drop};
 ghost use Rattle.model.specs.Entries.{kind_of};
 ghost use Rattle.model.specs.Tests.{any_of};
 ghost use Rattle.model.specs.Rules.{numbered};
@@ -17,7 +17,7 @@ use model::sheet::Sheet;
 fn is_bad_header(b1: u8, b2: u8, b3: u8) -> bool
     ensures { result ≡ spec.bad_header (0 ∷ b1 ∷ b2 ∷ b3 ∷ []) }
 {
-    let null = (b1 % 32) as u16 * 256 + b2 as u16 == 8191;
+    let null = u16::from_be_bytes([b1 % 32, b2]) == 8191;
     b1 / 128 % 2 == 1
         || b3 / 64 != 0
         || null && (b1 / 64 % 2 == 1 || b3 / 32 % 2 == 1 || b3 / 16 % 2 != 1)
@@ -68,13 +68,14 @@ fn is_bad_clock(kind: Option<Kind>, packet: &[u8; 188]) -> bool
         return false;
     }
     match kind {
-        Some(Kind::Clock) => (packet[10] % 2) as u16 * 256 + packet[11] as u16 > 299,
+        Some(Kind::Clock) => u16::from_be_bytes([packet[10] % 2, packet[11]]) > 299,
         _ => true,
     }
 }
 
 // The rule of form that a packet breaks first; `kind` is what the sheet says of its PID. Kind and packet go side by side in half of the
-// calls of this crate and are no struct: some read the packet and some write it, so it would be two.
+// calls of this crate and are no struct: some read the packet and some write it, so it would be two. A rule that is found is an answer
+// and no failure, here and in the watches, which look for one: so an Option, as the definitions have it.
 pub fn form_of_kind(kind: Option<Kind>, packet: &[u8; 188]) -> Option<Rule>
     ensures { Under kind packet.now (λ es. numbered result ≡ spec.form es packet.now) }
 {
@@ -97,7 +98,7 @@ pub fn form_of_kind(kind: Option<Kind>, packet: &[u8; 188]) -> Option<Rule>
     None
 }
 
-// What the sheet says of the packet's PID.
+// What the sheet says of the packet's PID: a search and no conversion.
 pub fn kind_of(sheet: &Sheet, packet: &[u8; 188]) -> Option<Kind>
     ensures { result ≡ kind_of (entries_of sheet.now) (pid packet.now) }
 {

@@ -1,10 +1,10 @@
-ghost use Rattle.std.specs.Prelude.{◌≡◌, ◌^◌, ◌<◌, Bool};
+ghost use Rattle.std.specs.Prelude.{◌≡◌, ◌^◌, ◌<◌};
 ghost use Rattle.model.specs.Packet as spec;
 
 pub fn pid(packet: &[u8; 188]) -> u16
     ensures { result ≡ spec.pid packet.now }
 {
-    (packet[1] % 32) as u16 * 256 + packet[2] as u16
+    u16::from_be_bytes([packet[1] % 32, packet[2]])
 }
 
 // A null packet: PID 8191.
@@ -61,12 +61,9 @@ pub fn pcr(packet: &[u8; 188]) -> u64
     ensures value { result ≡ spec.pcr packet.now }
     ensures small { result < 2 ^ 42 }
 {
-    let base = packet[6] as u64 * 33_554_432
-        + packet[7] as u64 * 131_072
-        + packet[8] as u64 * 512
-        + packet[9] as u64 * 2
-        + (packet[10] / 128) as u64;
-    base * 300 + (packet[10] % 2) as u64 * 256 + packet[11] as u64
+    let high = u32::from_be_bytes([packet[6], packet[7], packet[8], packet[9]]);
+    let base = u64::from(high) * 2 + u64::from(packet[10] / 128);
+    base * 300 + u64::from(u16::from_be_bytes([packet[10] % 2, packet[11]]))
 }
 
 // Where the payload begins: past the header and the adaptation field.

@@ -1,10 +1,11 @@
 -- A player by its fields.
-use Rattle.std.specs.Prelude.{◌≡◌, ℕ, ◌-◌, List, [], replicate, Some, None, Ok, Err, Option, Result, slice_index_or}
+use Rattle.std.specs.Prelude.{◌≡◌, ℕ, ◌-◌, List, [], length, replicate, Some, None, Ok, Err, Option, Result, slice_index_or}
 use Rattle.model.specs.declared.entry.Entry.{Entry}
 use Rattle.model.specs.Packet.{Bytes}
 use Rattle.model.specs.Runs.{Packets}
 use Rattle.model.specs.Breaches.{Breach}
 use Rattle.model.specs.Sheets.{entries_of, round_of}
+use Rattle.model.specs.Player as rules
 use Rattle.model.specs.Player.{Standing}
 use Rattle.verdict.specs.declared.verdict.Breach.{Breach as Named}
 use Rattle.player.specs.declared.progress.player.Player.{Player}
@@ -16,6 +17,10 @@ use Rattle.verdict.specs.Verdicts.{breach_of}
 module _ {S W : Type 0} where
   abbrev pub standing_of : Player S W → Standing
   standing_of p = standing_at (approved_in p.seen) p.progress
+
+  -- the refusal that a call meets, by what the reel means
+  abbrev pub refused_by : (S → Packets) → Player S W → rules.Call → Option ℕ
+  refused_by packets p c = rules.refusal p.unit (length (packets p.reel)) (standing_of p) c
 
   -- all but the progress
   pub record Same (p q : Player S W) : Type 0 where

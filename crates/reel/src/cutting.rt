@@ -1,6 +1,6 @@
 ghost use Rattle.std.specs.Prelude.{◌≡◌, false, length};
 ghost use Rattle.model.specs.Refusals.{outcome};
-ghost use Rattle.model.specs.Reels.{bad_bytes, low, held, cut, fetched, filled};
+ghost use Rattle.model.specs.Reels.{bad_bytes, low, cut, fetched, filled};
 
 use crate::reel::allow_fetch;
 use model::count::is_bad_number;

@@ -1,6 +1,6 @@
 ghost use Rattle.std.specs.Prelude.{◌≡◌, ◌≤◌, [], ◌∷◌, length};
 ghost use Rattle.model.specs.File.{bad_number};
-ghost use Rattle.model.specs.Reels.{fillers, filler_packet, fetched, filled};
+ghost use Rattle.model.specs.Reels.{fillers, filler_packet};
 ghost use Rattle.model.specs.Refusals.{outcome};
 ghost use Rattle.model.specs.Tests.{first_broken, unless};
 ghost use Rattle.laws.proofs.ReelLaws.{fillers_whole};

@@ -1,4 +1,4 @@
-ghost use Rattle.std.specs.Prelude.{◌≡◌, false, length};
+ghost use Rattle.std.specs.Prelude.{◌≡◌, false};
 ghost use Rattle.model.specs.Reels.{held, bad_bytes};
 ghost use Rattle.reel.specs.Cuts.{held_whole};
 

@@ -14,7 +14,8 @@ pub trait Reel {
     fn count(&self) -> usize
         ensures { result ≡ length (packets self.now) };
 
-    // Copies the packet of a place into a buffer of 188 bytes.
+    // Copies the packet of a place into a buffer of 188 bytes. Who asks below the count, with that size, lets the answer go: a function that
+    // answers the packet alone would have to require both.
     fn fetch(&mut self, place: usize, buffer: &mut [u8]) -> Result<(), Refusal>
         ensures keeps { packets self.new ≡ packets self.old }
         ensures answers { outcome (λ u. u) result ≡ fetched (packets self.old) place (length buffer.old) }

@@ -1,8 +1,12 @@
 -- What a pen wrote.
-use Rattle.std.specs.Prelude.{◌≡◌, ◌+◌, ◌≤◌, length}
+use Rattle.std.specs.Prelude.{◌≡◌, ℕ, ◌+◌, ◌≤◌, length}
 use Rattle.model.specs.Buffers.{laid}
 use Rattle.model.specs.Packet.{Bytes}
 use Rattle.report.specs.declared.pen.Pen.{Pen}
+
+-- whether the buffer has room for n more bytes
+abbrev pub Room : Pen → ℕ → Type 0
+Room p n = p.at + n ≤ length p.out.now
 
 -- the pen q is p after it wrote t
 pub record Wrote (p : Pen) (t : Bytes) (q : Pen) : Type 0 where

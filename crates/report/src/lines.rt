@@ -1,9 +1,9 @@
-ghost use Rattle.std.specs.Prelude.{◌+◌, ◌≤◌, length, Some, IfOk};
+ghost use Rattle.std.specs.Prelude.{◌+◌, ◌≤◌, Some, IfOk};
 ghost use Rattle.model.specs.Refusals.{refusal_number};
 ghost use Rattle.model.specs.Report.{refused_line, reel_line, verdict_line};
 ghost use Rattle.model.specs.Rules.{rule_number};
 ghost use Rattle.report.specs.Checks.{told};
-ghost use Rattle.report.specs.Pens.{Wrote};
+ghost use Rattle.report.specs.Pens.{Room, Wrote};
 ghost use Rattle.verdict.specs.Verdicts.{breach_of};
 
 use crate::checking::Checked;
@@ -15,7 +15,7 @@ use verdict::verdict::{Breach, Verdict};
 impl Pen<'_> {
     // The line of a refusal.
     pub fn refused(&mut self, refusal: Refusal)
-        requires { self.old.at + 11 ≤ length self.old.out.now }
+        requires { Room self.old 11 }
         ensures { Wrote self.old (refused_line (refusal_number refusal)) self.new }
     {
         self.text("REFUSED ");
@@ -23,9 +23,10 @@ impl Pen<'_> {
         self.text("\n");
     }
 
-    // The line of a reel.
+    // The line of a reel. That a short file has at most 999 packets is asked here and in `report`, and said by its check: a type of such
+    // numbers would be no plainer.
     pub fn reel(&mut self, packets: usize, entries: usize)
-        requires { (self.old.at + 12 ≤ length self.old.out.now) × ((packets ≤ 999) × (entries ≤ 16)) }
+        requires { (Room self.old 12) × ((packets ≤ 999) × (entries ≤ 16)) }
         ensures writes { Wrote self.old (reel_line packets entries) self.new }
         ensures short { self.new.at ≤ self.old.at + 12 }
     {
@@ -38,7 +39,7 @@ impl Pen<'_> {
 
     // The line of a breach.
     fn breach(&mut self, breach: Breach)
-        requires { self.old.at + 50 ≤ length self.old.out.now }
+        requires { Room self.old 50 }
         ensures { Wrote self.old (verdict_line (Some (record { round = breach.round; packet = breach.packet; rule = rule_number breach.rule }))) self.new }
     {
         self.text("BREACH ");
@@ -52,7 +53,7 @@ impl Pen<'_> {
 
     // The line of the check.
     pub fn verdict(&mut self, verdict: Verdict)
-        requires { self.old.at + 50 ≤ length self.old.out.now }
+        requires { Room self.old 50 }
         ensures { Wrote self.old (verdict_line (breach_of verdict)) self.new }
     {
         match verdict {
@@ -63,7 +64,7 @@ impl Pen<'_> {
 
     // The report.
     pub fn report(&mut self, checked: Result<Checked, Refusal>)
-        requires { (self.old.at + 64 ≤ length self.old.out.now) × IfOk checked (λ found. found.contents.count ≤ 999) }
+        requires { (Room self.old 64) × IfOk checked (λ found. found.contents.count ≤ 999) }
         ensures { Wrote self.old (told checked) self.new }
     {
         match checked {

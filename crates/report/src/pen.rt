@@ -1,10 +1,10 @@
 ghost use Rattle.std.specs.Prelude.{◌≡◌, ◌+◌, ◌≤◌, length, decimal};
-ghost use Rattle.report.specs.Pens.{Wrote};
+ghost use Rattle.report.specs.Pens.{Room, Wrote};
 
 use itoa::Buffer;
 
 // Writes into a lent buffer from its front, one part behind the other. Not by `write!`, which promises its text only where it does
-// not fail, and never that it does not: a report always has its room.
+// not fail, and never that it does not: a report always has its room. No heap: the buffer is the caller's, and the place stands beside it.
 #[derive(Drop)]
 pub struct Pen<'a> {
     out: &'a mut [u8],
@@ -28,7 +28,7 @@ impl<'a> Pen<'a> {
     }
 
     pub fn text(&mut self, text: &str)
-        requires { self.old.at + length text.now ≤ length self.old.out.now }
+        requires { Room self.old (length text.now) }
         ensures { Wrote self.old text.now self.new }
     {
         let end = self.at + text.len();
@@ -37,7 +37,7 @@ impl<'a> Pen<'a> {
     }
 
     pub fn decimal(&mut self, n: u64)
-        requires { self.old.at + length (decimal n) ≤ length self.old.out.now }
+        requires { Room self.old (length (decimal n)) }
         ensures { Wrote self.old (decimal n) self.new }
     {
         let mut digits = Buffer::new();

@@ -13,7 +13,8 @@ use watch::stamps::Stamps;
 // The watches of the house, in their order.
 pub type House = Bank<Clock, Bank<Sections, Stamps>>;
 
-// Reports on a file at the front of a buffer, and answers how many bytes were written, or 7 for a buffer of under 64 bytes.
+// Reports on a file at the front of a buffer, and answers how many bytes were written, or 7 for a buffer of under 64 bytes. These two answer
+// numbers as the C interface does, which is them under other names.
 pub fn reel_report(file: &[u8], out: &mut [u8]) -> usize
     ensures answers { result ≡ reported file.now (length out.old) }
     ensures writes { out.new ≡ reported_in file.now out.old }

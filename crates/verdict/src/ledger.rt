@@ -2,7 +2,7 @@ use model::rule::Rule;
 use model::sheet::Sheet;
 
 // What is kept of a PID: its latest sound packet, whether that is a copy, how many packets count for its tally, modulo 16,
-// and whether one carried a clock value.
+// and whether one carried a clock value. The four stand side by side as in `noted_by`; without a latest packet nothing reads `copied`.
 #[derive(Clone, Copy)]
 pub struct Row {
     last: Option<[u8; 188]>,
@@ -11,7 +11,8 @@ pub struct Row {
     clocked: bool,
 }
 
-// What is kept of all PIDs of a sheet, in its order: no heap, so that there are as many rows as a sheet has entries at most.
+// What is kept of all PIDs of a sheet, in its order: no heap, so that there are as many rows as a sheet has entries at most. The clock and
+// the sections watch have such a table too: one for all would be an array of a type parameter, which the kit does not prove.
 #[derive(Clone, Copy)]
 pub struct Ledger {
     sheet: Sheet,

@@ -1,6 +1,6 @@
 -- Tests joined by `&&`, decided by one of them.
 use Rattle.std.proofs.Common.{◌≡◌, ℕ, Bool, true, false, cond, not, ◌&&◌, Some, None, Option, sym, refl, arith}
-use Rattle.std.proofs.lemmas.Bool.{and_left, and_right, both_ways, cond-false}
+use Rattle.std.proofs.lemmas.Bool.{and_left, and_right, both_ways}
 
 pub third_false : (a b c d : Bool) → c ≡ false → false ≡ (a && (b && (c && d)))
 third_false a b c d e = sym (and_right a _ (and_right b _ (and_left c d e)))

@@ -4,7 +4,7 @@ use native.Mathlib.Nat.{min-le_left, min-le_right}
 use borrow.Rule.Slice.PartMut.{mid_of, put_mid}
 use Rattle.std.proofs.lemmas.List.{append-nil, length_push, length-append, length-take-le, get_or_append_left, take_at}
 use Rattle.std.proofs.lemmas.Bool.{cond-true, cond-false, eq-eqb, ne_eqb}
-use Rattle.model.proofs.Laying.{laid_part, laid_length}
+use Rattle.model.proofs.Laying.{laid_part}
 use Rattle.model.specs.Buffers.{laid}
 use Rattle.model.specs.Packet.{Bytes, byte}
 use Rattle.model.specs.Crc.{crc32}

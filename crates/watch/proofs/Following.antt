@@ -1,16 +1,15 @@
 -- The phases of the sections watch stand for the packets that it has observed.
-use Rattle.std.proofs.Common.{◌≡◌, ℕ, ◌+◌, ◌-◌, ◌<◌, Bool, true, false, cond, ◌&&◌, eqb, leb, List, [], ◌∷◌, length, get_or, take, drop, set, replicate, Some, None, Option, sym, refl, ap, ◌∙◌, subst, inl, inr, arith}
-use borrow.Rule.Slice.PartMut.{mid_of}
+use Rattle.std.proofs.Common.{◌≡◌, ℕ, ◌<◌, Bool, true, false, cond, ◌&&◌, eqb, List, [], ◌∷◌, length, get_or, set, replicate, Some, None, Option, sym, refl, ap, ◌∙◌, subst, inl, inr}
 use Rattle.std.proofs.lemmas.List.{get_or-replicate, get_or_past}
-use Rattle.std.proofs.lemmas.Bool.{cases_Bool, cases_lt, cond-true, cond-false, and_parts, and_from, eqb-true, eq-eqb, both_ways, lt-leb}
+use Rattle.std.proofs.lemmas.Bool.{cases_Bool, cases_lt, cond-true, cond-false, and_parts, and_from, eqb-true, eq-eqb, both_ways}
 use Rattle.model.specs.declared.entry.Entry.{Entry}
 use Rattle.model.specs.declared.entry.Kind.{Kind}
-use Rattle.model.specs.declared.entry.Kind.TheVariants.{Pes, Sections, Clock}
+use Rattle.model.specs.declared.entry.Kind.TheVariants.{Sections}
 use Rattle.model.specs.Entries.{row_of, is_sections, kind_of, listed}
-use Rattle.model.specs.Packet.{Bytes, byte, pid, has_payload}
+use Rattle.model.specs.Packet.{Bytes, pid, has_payload}
 use Rattle.model.specs.Form.{sound}
 use Rattle.model.specs.Runs.{Placed}
-use Rattle.model.specs.Sections.{Phase, unstarted, section, more, read_all, settled, started, leading, with_start, carries, phase_from, advance, offence, sections_finding}
+use Rattle.model.specs.Sections.{Phase, unstarted, carries, phase_from, advance, offence, sections_finding}
 use Rattle.watch.specs.Tables.{at}
 use Rattle.watch.specs.Phases.{sections_from}
 use Rattle.watch.proofs.Rows.{at_set}

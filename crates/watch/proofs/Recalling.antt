@@ -1,15 +1,15 @@
 -- The marks of the clock watch stand for the packets that it has observed.
-use Rattle.std.proofs.Common.{◌≡◌, ℕ, ◌+◌, ◌-◌, ◌*◌, ◌%◌, ◌<◌, ◌≤◌, Bool, true, false, cond, not, ◌&&◌, eqb, ltb, leb, List, [], ◌∷◌, length, get_or, set, replicate, Some, None, Option, sym, refl, ap, ◌∙◌, subst, inl, inr, zero-add}
+use Rattle.std.proofs.Common.{◌≡◌, ℕ, ◌<◌, Bool, true, false, cond, ◌&&◌, eqb, List, [], ◌∷◌, length, get_or, set, replicate, Some, None, Option, sym, refl, ap, ◌∙◌, subst, inl, inr, zero-add}
 use Rattle.std.proofs.lemmas.List.{get_or-replicate, get_or_past}
-use Rattle.std.proofs.lemmas.Bool.{cases_Bool, cases_lt, cond-true, cond-false, and_parts, and_from, eqb-true, eq-eqb, both_ways, le-leb, lt-leb, lt-ltb, le-ltb}
+use Rattle.std.proofs.lemmas.Bool.{cases_Bool, cases_lt, cond-true, cond-false, and_parts, and_from, eqb-true, eq-eqb, both_ways}
 use Rattle.model.specs.declared.entry.Entry.{Entry}
 use Rattle.model.specs.declared.entry.Kind.{Kind}
-use Rattle.model.specs.declared.entry.Kind.TheVariants.{Pes, Sections, Clock}
+use Rattle.model.specs.declared.entry.Kind.TheVariants.{Clock}
 use Rattle.model.specs.Entries.{row_of, is_clock, kind_of, listed}
 use Rattle.model.specs.Packet.{Bytes, pid, has_pcr}
 use Rattle.model.specs.Form.{sound}
 use Rattle.model.specs.Runs.{Placed}
-use Rattle.model.specs.Clock.{carries_pcr, last_pcr, later, judged, off_rate, clock_finding}
+use Rattle.model.specs.Clock.{carries_pcr, last_pcr, later, judged, clock_finding}
 use Rattle.watch.specs.declared.mark.Mark.{Mark}
 use Rattle.watch.specs.Tables.{at}
 use Rattle.watch.specs.Marks.{mark_of, placed_of, recalled, clock_from}

@@ -1,11 +1,9 @@
 -- The row of a PID, and what stands in it after a write.
-use Rattle.std.proofs.Common.{◌≡◌, ℕ, ◌+◌, ◌<◌, Bool, true, false, cond, eqb, List, [], ◌∷◌, length, set, Some, None, Option, sym, refl, ap, ◌∙◌, inl, inr, arith, length-take}
+use Rattle.std.proofs.Common.{◌≡◌, ℕ, ◌+◌, ◌<◌, Bool, true, false, cond, eqb, List, [], ◌∷◌, length, set, Some, None, Option, sym, refl, ap, ◌∙◌, inl, inr, arith}
 use Rattle.std.proofs.lemmas.List.{get_or-set_same, get_or-set_other}
 use Rattle.std.proofs.lemmas.Bool.{cases_Bool, cond-true, cond-false, eqb-true, eqb-false, both_ways}
 use Rattle.model.specs.declared.entry.Entry.{Entry}
-use Rattle.model.specs.declared.sheet.Sheet.{Sheet}
 use Rattle.model.specs.Entries.{row_of, next, kind_of, listed}
-use Rattle.model.specs.Sheets.{entries_of}
 use Rattle.watch.specs.Tables.{at}
 
 zero_one : ◌≡◌ {A = ℕ} 0 1 → ⊥

@@ -70,7 +70,7 @@ fn judge(rate: u32, kept: &mut Option<Mark>, here: Mark) -> Option<Rule>
     }
 }
 
-// The row of a packet that carries a clock value.
+// The row of a packet that carries a clock value, as `section_row` for sections.
 fn clock_row(sheet: &Sheet, packet: &[u8; 188]) -> Option<usize>
     ensures row { (place : ℕ) → result ≡ (if carries_pcr (entries_of sheet.now) (pid packet.now) (record { place = place; bytes = packet.now }) then row_of (entries_of sheet.now) (pid packet.now) else None) }
     ensures fits { IfSome result (λ i. i < 16) }

@@ -1,4 +1,4 @@
-ghost use Rattle.std.specs.Prelude.{◌≡◌, ℕ, ◌<◌, map, length, IfSome, if◌then◌else◌, Some, None, slice_index_or, slice_set};
+ghost use Rattle.std.specs.Prelude.{◌≡◌, ℕ, ◌<◌, map, length, IfSome, if◌then◌else◌, None, slice_index_or, slice_set};
 ghost use Rattle.model.specs.Entries.{row_of};
 ghost use Rattle.model.specs.Packet.{pid};
 ghost use Rattle.model.specs.Rules.{numbered};
@@ -31,8 +31,8 @@ pub struct Sections {
     ghost long: { length rows ≡ 16 },
 }
 
-// The row of a packet that carries section bytes, as `clock_row` for the clock: what both do is `sound_row`, and each asks its flag first,
-// which is cheap.
+// The row of a packet that carries section bytes, as `clock_row` for the clock. What both do is `sound_row`; a flag to ask first as one
+// more argument would read no plainer.
 fn section_row(sheet: &Sheet, packet: &[u8; 188]) -> Option<usize>
     ensures row { (place : ℕ) → result ≡ (if carries (entries_of sheet.now) (pid packet.now) (record { place = place; bytes = packet.now }) then row_of (entries_of sheet.now) (pid packet.now) else None) }
     ensures fits { IfSome result (λ i. i < 16) }

@@ -18,7 +18,8 @@ pub fn is_sound(kind: Kind, packet: &[u8; 188]) -> bool
     form_of_kind(Some(kind), packet).is_none()
 }
 
-// The row of a sound packet whose PID is of this kind.
+// The row of a sound packet whose PID is of this kind. That a row is below 16 is said at each function on its way from the sheet to a
+// table: a type of index for four calls would be no plainer.
 pub fn sound_row(sheet: &Sheet, kind: Kind, packet: &[u8; 188]) -> Option<usize>
     ensures row { result ≡ (if sound (entries_of sheet.now) packet.now && is_of kind (kind_of (entries_of sheet.now) (pid packet.now)) then row_of (entries_of sheet.now) (pid packet.now) else None) }
     ensures few { IfSome result (λ row. row < 16) }

@@ -21,7 +21,8 @@ pub struct Stamps {
     sheet: Sheet,
 }
 
-// Whether a packet is sound and starts a PES packet.
+// Whether a packet is sound and starts a PES packet. It asks the flags before it searches the sheet, as `packet::pes::starts_pes`, which
+// is given the kind, does not.
 fn starts_pes(sheet: &Sheet, packet: &[u8; 188]) -> bool
     ensures { result ≡ (sound (entries_of sheet.now) packet.now && starts_pes (entries_of sheet.now) packet.now) }
 {

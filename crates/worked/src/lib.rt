@@ -1,5 +1,7 @@
 #![tactic(auto)]
 
+// A theorem is the contract of a function, so each of these is one.
+//
 // The definitions, run: worked cases, and small generated reels with the answers of an implementation written apart.
 ghost use Rattle.worked.specs.Generated.{Generated};
 ghost use Rattle.worked.specs.Worked.{Worked};

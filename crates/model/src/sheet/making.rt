@@ -1,12 +1,12 @@
-ghost use Rattle.std.specs.Prelude.{◌≡◌, ◌≤◌, not, length, take};
+ghost use Rattle.std.specs.Prelude.{◌≡◌, ◌≤◌, length, take};
 ghost use Rattle.model.specs.Entries.{lawful, kind_of, listed};
 ghost use Rattle.model.specs.Sheets.{made, text_of, bad_timing};
 ghost use Rattle.model.specs.Refusals.{outcome};
 
 use crate::entry::{Entry, NO_ENTRY};
 use crate::refusal::Refusal;
-use crate::sheet::Sheet;
 use crate::sheet::reading::find_in;
+use crate::sheet::{HIGHEST_PID, HIGHEST_RATE, LONGEST_ROUND, Sheet};
 
 // Whether a PID stands among some entries.
 fn is_listed(entries: &[Entry], pid: u16) -> bool
@@ -19,9 +19,10 @@ fn is_listed(entries: &[Entry], pid: u16) -> bool
 fn is_lawful(entries: &[Entry]) -> bool
     ensures { result ≡ lawful entries.now }
 {
+    // a `for` and no `all`: each entry is asked for among those behind it
     for (i, entry) in entries.iter().enumerate() {
         let pid = entry.pid;
-        if pid > 8190 || is_listed(&entries[i + 1..], pid) {
+        if pid > HIGHEST_PID || is_listed(&entries[i + 1..], pid) {
             return false;
         }
     }
@@ -31,7 +32,7 @@ fn is_lawful(entries: &[Entry]) -> bool
 fn is_bad_timing(rate: u32, round: u64) -> bool
     ensures { result ≡ bad_timing rate round }
 {
-    !(1..=10_000_000).contains(&rate) || round % 300 != 0 || round > 2_576_980_377_300
+    !(1..=HIGHEST_RATE).contains(&rate) || round % 300 != 0 || round > LONGEST_ROUND
 }
 
 // The entries at the front of a whole table.
@@ -46,7 +47,7 @@ fn table_of(entries: &[Entry]) -> [Entry; 16]
 }
 
 impl Sheet {
-    // A sheet of these entries, byte rate and round length.
+    // A sheet of these entries, byte rate and round length: a struct of the last two would be the sheet but for its entries.
     pub fn new(entries: &[Entry], rate: u32, round: u64) -> Result<Sheet, Refusal>
         ensures { outcome text_of result ≡ made entries.now rate round }
     {

@@ -18,6 +18,7 @@ pub fn find_in(entries: &[Entry], pid: u16) -> Option<Listed>
     ensures kind { kind_in result ≡ kind_of entries.now pid }
     ensures within { IfSome result (λ found. found.place < length entries.now) }
 {
+    // a `for` and no `position`: place and kind are found in one look
     for (place, entry) in entries.iter().enumerate() {
         if entry.pid == pid {
             return Some(Listed {

@@ -1,4 +1,4 @@
-ghost use Rattle.std.specs.Prelude.{◌≡◌, ℕ, ◌<◌, not, List, [], length, if◌then◌else◌, Some, None, slice_index, slice_index_or};
+ghost use Rattle.std.specs.Prelude.{◌≡◌, ℕ, ◌<◌, not, List, [], if◌then◌else◌, Some, None, slice_index, slice_index_or};
 ghost use Rattle.model.specs.declared.rule.Rule.TheVariants.{Continuity};
 ghost use Rattle.model.specs.Breaches.{all_clocked};
 ghost use Rattle.model.specs.Packet.{Bytes};
@@ -14,6 +14,7 @@ use model::sheet::Sheet;
 use packet::form::form;
 use packet::header::{continuity_counter, has_payload, has_pcr, pid};
 
+// `==`, tied to the definition of a copy.
 fn same_bytes(a: &[u8; 188], b: &[u8; 188]) -> bool
     ensures { result ≡ same a.now b.now }
 {
@@ -122,6 +123,7 @@ impl Ledger {
     pub fn all_clocked(&self) -> bool
         ensures { (before : List Bytes) → Knows (entries_of self.now.sheet) before self.now.rows → result ≡ all_clocked (entries_of self.now.sheet) (entries_of self.now.sheet) before }
     {
+        // a `for` and no `zip`, through which the check knows too little of the rows
         for (i, entry) in self.sheet.entries().iter().enumerate() {
             if lacks_clock(entry, &self.rows[i]) {
                 return false;

@@ -12,6 +12,8 @@ use model::rule::Rule;
 use packet::header;
 use packet::payload::payload_of;
 
+// Stage and section are two arguments below: a row holds a result, and these are asked where it is Ok, with the section lent.
+
 // Where a PID stands once a payload is read.
 fn settled(progress: Progress) -> Stage
     ensures { (u : Bytes) → phase_in (Ok result) u ≡ spec.settled (reading_of (Ok progress) u) }

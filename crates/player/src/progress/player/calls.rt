@@ -5,7 +5,7 @@ ghost use Rattle.model.specs.Runs.{Placed};
 ghost use Rattle.model.specs.Sheets.{entries_of, round_of};
 ghost use Rattle.verdict.specs.Tallies.{round_stamped};
 ghost use Rattle.verdict.specs.Verdicts.{breach_of};
-ghost use Rattle.player.specs.Players.{standing_of, Same, checked_by, sent_packet, Noted, tallies_in};
+ghost use Rattle.player.specs.Players.{standing_of, refused_by, Same, checked_by, sent_packet, Noted, tallies_in};
 ghost use Rattle.player.specs.Standings as st;
 
 use crate::progress::player::Player;
@@ -75,8 +75,8 @@ impl<S: Reel, W: Watch> Player<S, W> {
 
     pub fn begin(&mut self) -> Result<Token, Refusal>
         ensures same { Same self.old self.new }
-        ensures answers { st.began_of result ≡ rules.answered (rules.refusal self.old.unit (length (S.Reel.packets self.old.reel)) (standing_of self.old) rules.begin) (rules.began self.old.unit self.old.progress.begun) }
-        ensures moves { self.new.progress ≡ st.after_begin (st.granted? (rules.refusal self.old.unit (length (S.Reel.packets self.old.reel)) (standing_of self.old) rules.begin)) self.old.progress }
+        ensures answers { st.began_of result ≡ rules.answered (refused_by S.Reel.packets self.old rules.begin) (rules.began self.old.unit self.old.progress.begun) }
+        ensures moves { self.new.progress ≡ st.after_begin (st.granted? (refused_by S.Reel.packets self.old rules.begin)) self.old.progress }
     {
         self.standing().allow_begin()?;
         let round = self.progress.begun;
@@ -101,9 +101,9 @@ impl<S: Reel, W: Watch> Player<S, W> {
 
     pub fn end(&mut self, token: Token) -> Result<(), (Refusal, Token)>
         ensures same { Same self.old self.new }
-        ensures answers { st.closed_of rules.ended result ≡ rules.answered (rules.refusal self.old.unit (length (S.Reel.packets self.old.reel)) (standing_of self.old) (rules.finish token.id.unit token.id.round)) rules.ended }
+        ensures answers { st.closed_of rules.ended result ≡ rules.answered (refused_by S.Reel.packets self.old (rules.finish token.id.unit token.id.round)) rules.ended }
         ensures back { st.Back token result }
-        ensures moves { self.new.progress ≡ st.after_end (st.granted? (rules.refusal self.old.unit (length (S.Reel.packets self.old.reel)) (standing_of self.old) (rules.finish token.id.unit token.id.round))) self.old.progress }
+        ensures moves { self.new.progress ≡ st.after_end (st.granted? (refused_by S.Reel.packets self.old (rules.finish token.id.unit token.id.round))) self.old.progress }
     {
         let n = self.reel.count();
         let ours = self.is_ours(token.id);
@@ -115,12 +115,12 @@ impl<S: Reel, W: Watch> Player<S, W> {
         Ok(())
     }
 
-    // As `end`, but for the refusal and what is counted: the token goes back or is spent in between.
+    // As `end`, but for the refusal and what is counted: one function of both would take the two as arguments and say neither.
     pub fn give_up(&mut self, token: Token) -> Result<(), (Refusal, Token)>
         ensures same { Same self.old self.new }
-        ensures answers { st.closed_of rules.gave_up result ≡ rules.answered (rules.refusal self.old.unit (length (S.Reel.packets self.old.reel)) (standing_of self.old) (rules.give_up token.id.unit token.id.round)) rules.gave_up }
+        ensures answers { st.closed_of rules.gave_up result ≡ rules.answered (refused_by S.Reel.packets self.old (rules.give_up token.id.unit token.id.round)) rules.gave_up }
         ensures back { st.Back token result }
-        ensures moves { self.new.progress ≡ st.after_give_up (st.granted? (rules.refusal self.old.unit (length (S.Reel.packets self.old.reel)) (standing_of self.old) (rules.give_up token.id.unit token.id.round))) self.old.progress }
+        ensures moves { self.new.progress ≡ st.after_give_up (st.granted? (refused_by S.Reel.packets self.old (rules.give_up token.id.unit token.id.round))) self.old.progress }
     {
         let ours = self.is_ours(token.id);
         if let Err(refusal) = self.standing().allow_give_up(ours) {
@@ -134,7 +134,7 @@ impl<S: Reel, W: Watch> Player<S, W> {
     pub fn send(&mut self, buffer: &mut [u8]) -> Result<(), Refusal>
         ensures keeps { S.Reel.packets self.new.reel ≡ S.Reel.packets self.old.reel }
         ensures same { (self.new.sheet ≡ self.old.sheet) × ((self.new.unit ≡ self.old.unit) × ((self.new.seen ≡ self.old.seen) × (self.new.watch ≡ self.old.watch))) }
-        ensures answers { st.refusal_of result ≡ rules.refusal self.old.unit (length (S.Reel.packets self.old.reel)) (standing_of self.old) (rules.send buffer.old) }
+        ensures answers { st.refusal_of result ≡ refused_by S.Reel.packets self.old (rules.send buffer.old) }
         ensures moves { self.new.progress ≡ st.after_send (st.granted? (st.refusal_of result)) self.old.progress }
         ensures writes { buffer.new ≡ (if st.granted? (st.refusal_of result) then sent_packet self.old (S.Reel.packets self.old.reel) else buffer.old) }
     {

@@ -3,7 +3,7 @@ use Rattle.model.specs.Packet.{pid, payload_unit_start, has_payload}
 use Rattle.model.specs.Entries.{kind_of, is_pes}
 use Rattle.model.specs.Form.{sound}
 use Rattle.model.specs.Sheets.{entries_of}
-use Rattle.watch.proofs.Booleans.{third_false, fourth_false}
+use Rattle.watch.proofs.Booleans.{third_false}
 use Rattle.watch.proofs.stamps.starts_pes.Goals as goal
 
 pub returns-then-not-payload_unit_start : goal.returns-then-not-payload_unit_start

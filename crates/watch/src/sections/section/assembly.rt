@@ -25,7 +25,7 @@ fn section_length(bytes: &[u8]) -> usize
     requires { 3 ≤ length bytes.now }
     ensures { result ≡ section_length bytes.now }
 {
-    usize::from(bytes[1] % 16) * 256 + usize::from(bytes[2])
+    usize::from(u16::from_be_bytes([bytes[1] % 16, bytes[2]]))
 }
 
 // What the last byte of a whole section brings.

@@ -1,4 +1,4 @@
-use Rattle.std.proofs.Common.{◌≡◌, ℕ, Ok, Err, length, take, drop, sym, ap, ◌∙◌, take-append-drop, arith, rules}
+use Rattle.std.proofs.Common.{◌≡◌, ℕ, Ok, Err, take, drop, sym, ap, ◌∙◌, take-append-drop, rules}
 use Rattle.std.proofs.lemmas.List.{take_rest}
 use Rattle.model.specs.Packet.{Bytes}
 use Rattle.model.specs.Rules.{rule_number}

@@ -1,4 +1,4 @@
-use Rattle.std.proofs.Common.{sym, arith, rules}
+use Rattle.std.proofs.Common.{rules}
 use Rattle.watch.proofs.Assembling.{push_open, push_other}
 use Rattle.watch.proofs.sections.section.Section.push.Goals as goal
 use Rattle.watch.proofs.sections.section.Section.push.Goals.{in-Ok-Open, in_default, in_default-2}

@@ -1,4 +1,4 @@
-use Rattle.std.proofs.Common.{◌≡◌, [], Err, sym, ◌∙◌, subst, arith, rules}
+use Rattle.std.proofs.Common.{◌≡◌, [], Err, sym, ◌∙◌, subst, rules}
 use Rattle.model.specs.Rules.{rule_number}
 use Rattle.watch.specs.Readings.{Takes}
 use Rattle.watch.specs.Assembled.{bytes_of}
