@@ -12,7 +12,8 @@ use anyhow::{Context, ensure};
 use makes::{Numbers, clock, empty, filler, generated_reel, plain, section_reel, stamped};
 use model::entry::Kind;
 use other::Packet;
-use tried::try_reel;
+use std::alloc::AllocError;
+use tried::{Tried, try_reel};
 
 // Where the lines go, and how many reels were tried, and on how many both agree.
 #[derive(Drop)]
@@ -23,9 +24,13 @@ struct Trial<'a> {
 }
 
 impl Trial<'_> {
-    // Tries a reel of a kind with this round length, and writes its line.
-    fn say(&mut self, name: &str, kind: Kind, round: u64, reel: &[u8]) -> anyhow::Result<()> {
-        let tried = try_reel(self.rt.alloc(), kind, round, reel)?;
+    // Tries a reel of a kind with this round length. Where its line stands below a heading, both are written once it was tried.
+    fn attempt(&self, kind: Kind, round: u64, reel: &[u8]) -> Result<Tried, AllocError> {
+        try_reel(self.rt.alloc(), kind, round, reel)
+    }
+
+    // Writes the line of a reel that was tried.
+    fn note(&mut self, name: &str, tried: Tried) -> anyhow::Result<()> {
         self.tried = self.tried.saturating_add(1);
         if tried.agree {
             self.agreed = self.agreed.saturating_add(1);
@@ -33,18 +38,26 @@ impl Trial<'_> {
         println!(self.rt; "{name}: {tried}")?;
         Ok(())
     }
+
+    // Tries a reel and writes its line.
+    fn say(&mut self, name: &str, kind: Kind, round: u64, reel: &[u8]) -> anyhow::Result<()> {
+        let tried = self.attempt(kind, round, reel)?;
+        self.note(name, tried)
+    }
 }
 
 fn clocks(trial: &mut Trial<'_>) -> anyhow::Result<()> {
     for ticks in [53_827, 53_828, 54_172, 54_173] {
-        println!(trial.rt; "two packets apart, {ticks} ticks")?;
         let reel = [clock(0, 0), filler(), clock(0, ticks), filler()];
-        trial.say("  clock", Kind::Clock, 108_000, reel.as_flattened())?;
+        let tried = trial.attempt(Kind::Clock, 108_000, reel.as_flattened())?;
+        println!(trial.rt; "two packets apart, {ticks} ticks")?;
+        trial.note("  clock", tried)?;
     }
     for round in [54_000, 54_300] {
-        println!(trial.rt; "a clock value in the first of two packets, {round} ticks a round")?;
         let reel = [clock(0, 0), filler()];
-        trial.say("  clock", Kind::Clock, round, reel.as_flattened())?;
+        let tried = trial.attempt(Kind::Clock, round, reel.as_flattened())?;
+        println!(trial.rt; "a clock value in the first of two packets, {round} ticks a round")?;
+        trial.note("  clock", tried)?;
     }
     Ok(())
 }
@@ -71,25 +84,22 @@ fn counters(trial: &mut Trial<'_>) -> anyhow::Result<()> {
 
 fn fields(trial: &mut Trial<'_>) -> anyhow::Result<()> {
     for (control, length) in [(0x30, 182), (0x20, 182), (0x20, 183), (0x30, 183)] {
-        println!(trial.rt; "fourth byte {control}, adaptation length {length}")?;
         let mut packet = empty(0);
         packet[3] = control;
         packet[4] = length;
-        trial.say("  field", Kind::Pes, 0, &packet)?;
+        let tried = trial.attempt(Kind::Pes, 0, &packet)?;
+        println!(trial.rt; "fourth byte {control}, adaptation length {length}")?;
+        trial.note("  field", tried)?;
     }
     Ok(())
 }
 
 fn section_lengths(trial: &mut Trial<'_>) -> anyhow::Result<()> {
     for length in [8, 9, 1_021, 1_022] {
-        println!(trial.rt; "section_length {length}")?;
         let reel = section_reel(trial.rt.alloc(), length)?;
-        trial.say(
-            "  section",
-            Kind::Sections,
-            0,
-            reel.as_slice().as_flattened(),
-        )?;
+        let tried = trial.attempt(Kind::Sections, 0, reel.as_slice().as_flattened())?;
+        println!(trial.rt; "section_length {length}")?;
+        trial.note("  section", tried)?;
     }
     Ok(())
 }
@@ -97,9 +107,10 @@ fn section_lengths(trial: &mut Trial<'_>) -> anyhow::Result<()> {
 fn sizes(trial: &mut Trial<'_>) -> anyhow::Result<()> {
     let reel = [filler(), filler()];
     for size in [187, 188, 375] {
-        println!(trial.rt; "{size} bytes of filler")?;
         let bytes = reel.as_flattened().get(..size).context("too few bytes")?;
-        trial.say("  memory", Kind::Pes, 27_000, bytes)?;
+        let tried = trial.attempt(Kind::Pes, 27_000, bytes)?;
+        println!(trial.rt; "{size} bytes of filler")?;
+        trial.note("  memory", tried)?;
     }
     Ok(())
 }

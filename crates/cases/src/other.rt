@@ -16,6 +16,25 @@ pub const STAMP_VALUES: u64 = 1 << 33;
 // How many values the clock has, in ticks of 27 MHz.
 pub const CLOCK_VALUES: u64 = 300 * STAMP_VALUES;
 
+// The number of a rule, of this implementation's own as well: the library's is compared with it.
+pub fn number(rule: Rule) -> u32 {
+    match rule {
+        Rule::Sync => 20,
+        Rule::Header => 21,
+        Rule::Pid => 22,
+        Rule::AdaptationField => 23,
+        Rule::Clock => 24,
+        Rule::Continuity => 25,
+        Rule::ClockGap => 26,
+        Rule::ClockRate => 27,
+        Rule::Sections => 28,
+        Rule::Crc => 29,
+        Rule::Stamps => 30,
+        Rule::Unclocked => 31,
+        Rule::Other(number) => number,
+    }
+}
+
 pub fn pid(packet: &Packet) -> u16 {
     u16::from_be_bytes([packet[1], packet[2]]) % 8192
 }

@@ -1,11 +1,12 @@
 -- A whole file made of packets and a sheet.
-use Rattle.std.specs.Prelude.{◌≡◌, ℕ, ◌/◌, ◌<◌, [], ◌∷◌, ◌++◌, length, Some, None, Ok, Err, Option, Result}
+use Rattle.std.specs.Prelude.{◌≡◌, ℕ, ◌/◌, ◌<◌, List, [], ◌∷◌, ◌++◌, length, Some, None, Ok, Err, Option, Result, codes}
 use Rattle.model.specs.File.{FileText, tail, opened}
 use Rattle.model.specs.Packet.{Bytes}
 use Rattle.model.specs.Reels.{bad_bytes}
 use Rattle.model.specs.Refusals.{refusal_number}
 use Rattle.model.specs.Sheets.{SheetText}
 use Rattle.model.specs.Tests.{first_broken}
+use Rattle.model.specs.Words.{refusal_words}
 use Rattle.file.specs.declared.packing.PackError.{PackError}
 use Rattle.file.specs.declared.packing.PackError.TheVariants.{Refused, Memory}
 
@@ -38,3 +39,8 @@ abbrev pub Wants : Result (Unit {0}) PackError → SheetText → Bytes → ℕ �
 Wants (Ok u) s ps room = Unit {0}
 Wants (Err (Refused r)) s ps room = Unit {0}
 Wants (Err Memory) s ps room = room < length (ps ++ tail (file_of ps s))
+
+-- what is said of it
+abbrev pub pack_error_words : PackError → List ℕ
+pack_error_words (Refused r) = refusal_words r
+pack_error_words Memory = codes "no memory is left for the tail"

@@ -1,6 +1,6 @@
-ghost use Rattle.std.specs.Prelude.{◌≡◌, vec_capacity};
+ghost use Rattle.std.specs.Prelude.{◌≡◌, Some, vec_capacity};
 ghost use Rattle.model.specs.Sheets.{text_of};
-ghost use Rattle.file.specs.Packing.{refusal_in, pack_refusal, bytes_after, OpensAs, Wants};
+ghost use Rattle.file.specs.Packing.{refusal_in, pack_refusal, bytes_after, OpensAs, Wants, pack_error_words};
 ghost use Rattle.file.specs.declared.packing.PackError.TheVariants as errors;
 
 use crate::writing::write_tail;
@@ -38,6 +38,8 @@ impl From<AllocError> for PackError {
 }
 
 impl fmt::Display for PackError {
+    ghost output = { λ error. Some (pack_error_words error) };
+
     fn fmt<W: fmt::Write>(&self, f: &mut fmt::Formatter<W>) -> fmt::Result {
         match self {
             Self::Refused(refusal) => write!(f, "{refusal}"),

@@ -1,5 +1,6 @@
 -- What the programs say of refusals and rules.
-use Rattle.std.specs.Prelude.{ℕ, List, codes}
+use Rattle.std.specs.Prelude.{ℕ, List, ◌++◌, codes, decimal}
+use Rattle.model.specs.declared.entry.UnknownKind.{UnknownKind}
 use Rattle.model.specs.declared.refusal.Refusal.{Refusal}
 use Rattle.model.specs.declared.refusal.Refusal.TheVariants.{Trailer, Distance, Count, Entries, Timing, Extent, Buffer, PastEnd, TooLong, GaveUp, NotApproved, RoundOpen, NoRound, WrongToken, AllSent, PacketsLeft, RoundsSpent}
 use Rattle.model.specs.declared.rule.Rule.{Rule}
@@ -38,3 +39,7 @@ rule_words rules.Crc = codes "a section fails its CRC_32"
 rule_words rules.Stamps = codes "the PES header or a time stamp is malformed"
 rule_words rules.Unclocked = codes "a PID of the clock kind carries no clock value"
 rule_words (rules.Other n) = codes "a rule of another watch is broken"
+
+-- of a number that no kind has
+abbrev pub unknown_kind_words : UnknownKind → List ℕ
+unknown_kind_words u = codes "no kind has the number " ++ decimal u.number

@@ -1,4 +1,4 @@
-ghost use Rattle.std.specs.Prelude.{◌≡◌};
+ghost use Rattle.std.specs.Prelude.{◌≡◌, Some};
 ghost use Rattle.model.specs.Rules.{rule_number};
 ghost use Rattle.model.specs.Words.{rule_words};
 
@@ -71,6 +71,8 @@ impl Rule {
 }
 
 impl fmt::Display for Rule {
+    ghost output = { λ rule. Some (rule_words rule) };
+
     fn fmt<W: fmt::Write>(&self, f: &mut fmt::Formatter<W>) -> fmt::Result {
         f.write_str(self.words())
     }

@@ -7,6 +7,7 @@ use model::count::is_bad_number;
 use model::refusal::Refusal;
 
 // Whether some bytes are not a whole number of packets, none, or too many. Each is below 256, as its type says.
+#[tactic(auto, using(crate::specs::Cuts::low_same))]
 pub fn is_bad_bytes(bytes: &[u8]) -> bool
     ensures answers { result ≡ bad_bytes bytes.now }
     ensures low { low bytes.now ≡ bytes.now }

@@ -75,7 +75,8 @@ pub fn check_with<R: Reel, W: Watch>(
     ensures counts { IfOk result (Tallied (entries_of sheet.now) (R.Reel.packets reel.old)) }
 {
     let mut ledger = Ledger::new(sheet);
-    check_round(reel, watch, &mut ledger, &[0; 16], 0)?;
+    let first = check_round(reel, watch, &mut ledger, &[0; 16], 0);
+    first?;
     if !ledger.all_clocked() {
         return Err(Breach {
             round: 0,
